@@ -29,11 +29,11 @@ impl Ring {
         ensures { λ r. ⌜ r ≡ self .slots ⌝ }
     {
         let Ring {
-            slots,
+            slots: memory,
             first: _,
             count: _,
         } = self;
-        slots
+        memory
     }
 
     // The place of the slot that is `k` after the first one.
