@@ -11,6 +11,7 @@ use Rattle.store.proofs.record.Record.copy_out.Needs as need
 pub returns : need.returns
 returns c =
     let s = c .args .self .now in
+    let room : 480 ≤ length (c .args .buffer .now) = omega arith in
     let l : length (take (s .length) (s .body)) ≡ s .length = length-take-le (s .length) (s .body) (omega arith) in
     let fit : length (take (s .length) (s .body)) ≤ length (c .args .buffer .now) = omega arith in
     let z : s .length - 0 ≡ s .length = omega arith in
@@ -18,7 +19,7 @@ returns c =
     let e′ = copied (c .args .buffer .now) (take (s .length - 0) (s .body)) (c .copy-at .last .out) (c .copy-at .result) fit′ (c .copy-at .ensures .fits) (c .copy-at .ensures .after) in
     let e = subst (λ (k : ℕ). c .copy-at .last .out ≡ take k (s .body) ++ drop (0 + length (take k (s .body))) (c .args .buffer .now)) z e′ in
     record {
-      answer = read-answer (reportIn s) [] (c .args .buffer .now) (c .copy-at .last .out) (c .if-buffer-lt480 .left) e (s .length) (sym l);
-      body = read-body (reportIn s) [] (c .args .buffer .now) (c .copy-at .last .out) (c .if-buffer-lt480 .left) e;
-      later = read-later (reportIn s) [] (c .args .buffer .now) (c .copy-at .last .out) (c .if-buffer-lt480 .left) e;
+      answer = read-answer (reportIn s) [] (c .args .buffer .now) (c .copy-at .last .out) room e (s .length) (sym l);
+      body = read-body (reportIn s) [] (c .args .buffer .now) (c .copy-at .last .out) room e;
+      later = read-later (reportIn s) [] (c .args .buffer .now) (c .copy-at .last .out) room e;
     }

@@ -11,8 +11,9 @@ use Rattle.store.proofs.record.Record.new.Needs as need
 pub returns : need.returns
 returns c =
     let a = c .args in
+    let fit : length (a .body .now) ≤ 480 = omega arith in
     let zeros : List ℕ = replicate 480 0 in
-    let e = copied zeros (a .body .now) (c .copy-at .last .out) (c .copy-at .result) (c .if-body-gt480 .left) (c .copy-at .ensures .fits) (c .copy-at .ensures .after) in
+    let e = copied zeros (a .body .now) (c .copy-at .last .out) (c .copy-at .result) fit (c .copy-at .ensures .fits) (c .copy-at .ensures .after) in
     record {
       report = (
         c .if-body-gt480 .left,
