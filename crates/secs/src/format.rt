@@ -1,5 +1,6 @@
 // The formats of items, each with its code and the bytes of one element. The length of a list counts items.
 ghost use mathlib.Core.Path.{_≡_};
+ghost use Prim.Native.Nat.{_<_};
 ghost use Rattle.std.specs.Finite.{nth};
 ghost use Rattle.secs.specs.Formats.{codeOf, widthOf, everyFormat, formatOf, table, Found-by-code, Code-found};
 
@@ -29,14 +30,16 @@ pub fn formats() -> [(u8, u8); 7]
 impl Format {
     // The format code, six bits.
     pub fn code(self) -> u8
-        ensures { λ r. ⌜ r ≡ codeOf self ⌝ }
+        ensures value { λ r. ⌜ r ≡ codeOf self ⌝ }
+        ensures small { λ r. ⌜ r < 64 ⌝ }
     {
         FORMATS[self as usize].0
     }
 
     // How many bytes an element takes.
     pub fn width(self) -> u8
-        ensures { λ r. ⌜ r ≡ widthOf self ⌝ }
+        ensures value { λ r. ⌜ r ≡ widthOf self ⌝ }
+        ensures some { λ r. ⌜ 0 < r ⌝ }
     {
         FORMATS[self as usize].1
     }
