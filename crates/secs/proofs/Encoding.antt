@@ -19,10 +19,10 @@ pub data Sized (n : ℕ) : Type 0 where
 pub sized : (n : ℕ) → Sized n
 sized n =
     elim (cases-lt n 256) [
-      inl a ↦ one a (cond-true _ _ _ (lt-ltb n 256 a)) (cond-true _ _ _ (lt-ltb n 256 a))
-    | inr a ↦ elim (cases-lt n 65536) [
-        inl b ↦ two a b (cond-false _ _ _ (le-ltb n 256 a) ∙ cond-true _ _ _ (lt-ltb n 65536 b)) (cond-false _ _ _ (le-ltb n 256 a) ∙ cond-true _ _ _ (lt-ltb n 65536 b))
-      | inr b ↦ three b (cond-false _ _ _ (le-ltb n 256 a) ∙ cond-false _ _ _ (le-ltb n 65536 b)) (cond-false _ _ _ (le-ltb n 256 a) ∙ cond-false _ _ _ (le-ltb n 65536 b))
+      | inl a ↦ one a (cond-true _ _ _ (lt-ltb n 256 a)) (cond-true _ _ _ (lt-ltb n 256 a))
+      | inr a ↦ elim (cases-lt n 65536) [
+        | inl b ↦ two a b (cond-false _ _ _ (le-ltb n 256 a) ∙ cond-true _ _ _ (lt-ltb n 65536 b)) (cond-false _ _ _ (le-ltb n 256 a) ∙ cond-true _ _ _ (lt-ltb n 65536 b))
+        | inr b ↦ three b (cond-false _ _ _ (le-ltb n 256 a) ∙ cond-false _ _ _ (le-ltb n 65536 b)) (cond-false _ _ _ (le-ltb n 256 a) ∙ cond-false _ _ _ (le-ltb n 65536 b))
       ]
     ]
 

@@ -7,6 +7,7 @@ use lib.ListN.{length}
 use Rattle.std.specs.Options.{isSome}
 use Rattle.std.specs.declared.option.Option.{Option}
 use Rattle.std.specs.declared.option.Option.the-variants.{Some, None}
+use Rattle.octets.specs.Places.{placed}
 use Rattle.secs.specs.Formats.{codeOf}
 use Rattle.secs.specs.Elements.{isList, contentFault}
 use Rattle.secs.specs.declared.format.Format.{Format}
@@ -51,3 +52,23 @@ valueBytes f content = itemBytes f (length content) content
 -- whether a content can be that of an item of a format other than a list
 abbrev pub writable : Format → List ℕ → Bool
 writable f content = not (isList f) && not (isSome (contentFault f content))
+
+-- whether an item of a format with a content can be written into a buffer at a place
+abbrev pub itemFits : List ℕ → ℕ → Format → List ℕ → Bool
+itemFits out at f content = writable f content && fitsAt out at (length content) (valueBytes f content)
+
+-- the place after an item that is written into a buffer at a place; none where it is refused
+abbrev pub itemEnd : List ℕ → ℕ → Format → List ℕ → Option ℕ
+itemEnd out at f content = placeAfter (itemFits out at f content) at (valueBytes f content)
+
+-- the buffer after that
+abbrev pub itemWritten : List ℕ → ℕ → Format → List ℕ → List ℕ
+itemWritten out at f content = cond (itemFits out at f content) (placed out at (valueBytes f content)) out
+
+-- the place of the first item of a list that is written into a buffer at a place; none where it is refused
+abbrev pub listEnd : List ℕ → ℕ → ℕ → Option ℕ
+listEnd out at n = placeAfter (fitsAt out at n (listBytes n)) at (listBytes n)
+
+-- the buffer after that
+abbrev pub listWritten : List ℕ → ℕ → ℕ → List ℕ
+listWritten out at n = cond (fitsAt out at n (listBytes n)) (placed out at (listBytes n)) out

@@ -7,10 +7,10 @@ ghost use lib.Dec.{leb};
 ghost use lib.ListN.{length};
 ghost use Rattle.std.specs.Options.{isSome};
 ghost use Rattle.octets.specs.Places.{placed};
-ghost use Rattle.secs.specs.Encode.{longest, lengthSize, headBytes, itemBytes, listBytes, valueBytes, writable, fitsAt, placeAfter};
-use octets::copy_at;
+ghost use Rattle.secs.specs.Encode.{longest, lengthSize, headBytes, itemBytes, fitsAt, placeAfter, listEnd, listWritten, itemEnd, itemWritten};
 use crate::elements::content_fault;
 use crate::format::Format;
+use octets::copy_at;
 
 // The greatest length of an item: three length bytes.
 pub const LONGEST: usize = 16_777_215;
@@ -41,14 +41,24 @@ fn write_head(out: &mut [u8], at: usize, format: Format, len: usize) -> bool
     } else if len < 65_536 {
         copy_at(out, at, &[code + 2, (len / 256) as u8, low])
     } else {
-        copy_at(out, at, &[code + 3, (len / 65_536) as u8, (len / 256 % 256) as u8, low])
+        copy_at(
+            out,
+            at,
+            &[code + 3, (len / 65_536) as u8, (len / 256 % 256) as u8, low],
+        )
     }
 }
 
 // Writes an item at `at` and answers the place after it. Where it is too long or there is no room, nothing changes.
-fn write_parts(out: &mut [u8], at: usize, format: Format, len: usize, content: &[u8]) -> Option<usize>
+fn write_parts(
+    out: &mut [u8],
+    at: usize,
+    format: Format,
+    len: usize,
+    content: &[u8],
+) -> Option<usize>
     ensures place { λ r. ⌜ r ≡ placeAfter (fitsAt (now (out .entry)) at len (itemBytes format len (now (content .entry)))) at (itemBytes format len (now (content .entry))) ⌝ }
-    ensures after { λ r. ⌜ now (out .exit) ≡ cond (isSome r) (placed (now (out .entry)) at (itemBytes format len (now (content .entry)))) (now (out .entry)) ⌝ }
+    ensures after { λ _. ⌜ now (out .exit) ≡ cond (fitsAt (now (out .entry)) at len (itemBytes format len (now (content .entry)))) (placed (now (out .entry)) at (itemBytes format len (now (content .entry)))) (now (out .entry)) ⌝ }
 {
     if len > LONGEST || at > out.len() {
         return None;
@@ -65,8 +75,8 @@ fn write_parts(out: &mut [u8], at: usize, format: Format, len: usize, content: &
 
 // Writes the beginning of a list of `count` items at `at`, and answers the place of its first item.
 pub fn write_list(out: &mut [u8], at: usize, count: usize) -> Option<usize>
-    ensures place { λ r. ⌜ r ≡ placeAfter (fitsAt (now (out .entry)) at count (listBytes count)) at (listBytes count) ⌝ }
-    ensures after { λ r. ⌜ now (out .exit) ≡ cond (isSome r) (placed (now (out .entry)) at (listBytes count)) (now (out .entry)) ⌝ }
+    ensures place { λ r. ⌜ r ≡ listEnd (now (out .entry)) at count ⌝ }
+    ensures after { λ _. ⌜ now (out .exit) ≡ listWritten (now (out .entry)) at count ⌝ }
 {
     write_parts(out, at, Format::List, count, &[])
 }
@@ -74,8 +84,8 @@ pub fn write_list(out: &mut [u8], at: usize, count: usize) -> Option<usize>
 // Writes an item of a format other than a list at `at`, and answers the place after it. A content that the reader
 // would find at fault is not written.
 pub fn write_item(out: &mut [u8], at: usize, format: Format, content: &[u8]) -> Option<usize>
-    ensures place { λ r. ⌜ r ≡ placeAfter (writable format (now (content .entry)) && fitsAt (now (out .entry)) at (length (now (content .entry))) (valueBytes format (now (content .entry)))) at (valueBytes format (now (content .entry))) ⌝ }
-    ensures after { λ r. ⌜ now (out .exit) ≡ cond (isSome r) (placed (now (out .entry)) at (valueBytes format (now (content .entry)))) (now (out .entry)) ⌝ }
+    ensures place { λ r. ⌜ r ≡ itemEnd (now (out .entry)) at format (now (content .entry)) ⌝ }
+    ensures after { λ _. ⌜ now (out .exit) ≡ itemWritten (now (out .entry)) at format (now (content .entry)) ⌝ }
 {
     if let Format::List = format {
         return None;

@@ -25,7 +25,9 @@ returns c =
     let place : a .at + (1 + c .length-size-head .result) + length content ≡ a .at + length bs = omega arith in
     record {
       place = ap Some place ∙ sym (cond-true _ _ _ fits);
-      after = wrote-more xs (a .at) head content (c .copy-at .result) (a .at + (1 + c .length-size-head .result)) (c .write-head .last .out) (c .copy-at .last .out)
-        room (wrote xs (a .at) head (c .write-head .result) (c .write-head .last .out) (omega arith) (c .write-head .ensures .fits) (c .write-head .ensures .after))
-        (omega arith) (c .copy-at .ensures .fits) (c .copy-at .ensures .after);
+      after =
+          wrote-more xs (a .at) head content (c .copy-at .result) (a .at + (1 + c .length-size-head .result)) (c .write-head .last .out) (c .copy-at .last .out)
+          room (wrote xs (a .at) head (c .write-head .result) (c .write-head .last .out) (omega arith) (c .write-head .ensures .fits) (c .write-head .ensures .after))
+          (omega arith) (c .copy-at .ensures .fits) (c .copy-at .ensures .after)
+          ∙ sym (cond-true _ _ _ fits);
     }
