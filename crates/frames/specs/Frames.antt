@@ -23,13 +23,14 @@ headerBytes h = be2 (h .session) ++ (streamByte (h .wait) (h .stream) ∷ h .fun
 -- the header that ten bytes are
 abbrev pub headerOf : List ℕ → Header
 headerOf bs = record {
-    session = num2 bs 0;
-    wait = leb 128 (getD bs 2 0);
-    stream = getD bs 2 0 % 128;
-    function = getD bs 3 0;
-    ptype = getD bs 4 0;
-    stype = getD bs 5 0;
-    transaction = num4 bs 6 }
+  session = num2 bs 0;
+  wait = leb 128 (getD bs 2 0);
+  stream = getD bs 2 0 % 128;
+  function = getD bs 3 0;
+  ptype = getD bs 4 0;
+  stype = getD bs 5 0;
+  transaction = num4 bs 6;
+}
 
 -- a frame by its parts
 pub record Parted : Type 0 where

@@ -4,8 +4,8 @@ ghost use mathlib.Core.Bool.{cond};
 ghost use Prim.Native.Nat.{ℕ, _+_};
 ghost use lib.ListN.{length};
 ghost use Rattle.frames.specs.Frames.{headerBytes, frameOf, frameAt, parted, frameFits, frameEnd, frameWritten};
-use octets::copy_at;
 use crate::header::Header;
+use octets::copy_at;
 
 // A frame taken apart. The body is a part of the frame.
 #[derive(Clone, Copy)]
@@ -22,7 +22,18 @@ impl Header {
         let [s0, s1] = self.session.to_be_bytes();
         let [t0, t1, t2, t3] = self.transaction.to_be_bytes();
         let wait = if self.wait { 128 } else { 0 };
-        [s0, s1, wait + self.stream % 128, self.function, self.ptype, self.stype, t0, t1, t2, t3]
+        [
+            s0,
+            s1,
+            wait + self.stream % 128,
+            self.function,
+            self.ptype,
+            self.stype,
+            t0,
+            t1,
+            t2,
+            t3,
+        ]
     }
 }
 
@@ -30,7 +41,20 @@ impl Header {
 pub fn split_frame<'a>(frame: &'a [u8]) -> Option<Frame<'a>>
     ensures { λ r. ⌜ parted r ≡ frameAt (now (frame .entry)) ⌝ }
 {
-    let [s0, s1, stream, function, ptype, stype, t0, t1, t2, t3, body @ ..] = frame else {
+    let [
+        s0,
+        s1,
+        stream,
+        function,
+        ptype,
+        stype,
+        t0,
+        t1,
+        t2,
+        t3,
+        body @ ..,
+    ] = frame
+    else {
         return None;
     };
     let header = Header {
@@ -43,4 +67,24 @@ pub fn split_frame<'a>(frame: &'a [u8]) -> Option<Frame<'a>>
         transaction: u32::from_be_bytes([*t0, *t1, *t2, *t3]),
     };
     Some(Frame { header, body })
+}
+
+// Writes a frame as it is sent at `at`: four bytes of length, header, body. Answers the place after it; where it does
+// not fit, none, and no byte changes.
+pub fn write_frame(out: &mut [u8], at: usize, header: Header, body: &[u8]) -> Option<usize>
+    ensures place { λ r. ⌜ r ≡ frameEnd (now (out .entry)) at (now (body .entry)) ⌝ }
+    ensures after { λ _. ⌜ now (out .exit) ≡ frameWritten (now (out .entry)) at header (now (body .entry)) ⌝ }
+{
+    if at > out.len()
+        || out.len() - at < 14
+        || out.len() - at - 14 < body.len()
+        || body.len() > 0xffff_fff5
+    {
+        return None;
+    }
+    let length = (10 + body.len()) as u32;
+    copy_at(out, at, &length.to_be_bytes());
+    copy_at(out, at + 4, &header.bytes());
+    copy_at(out, at + 14, body);
+    Some(at + 14 + body.len())
 }

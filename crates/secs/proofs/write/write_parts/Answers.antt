@@ -1,4 +1,4 @@
-use mathlib.Core.Path.{_≡_, ap, sym, _∙_}
+use mathlib.Core.Path.{_≡_, refl, ap, sym, _∙_}
 use mathlib.Core.Bool.{true}
 use Prim.Native.Nat.{_+_, _≤_}
 use native.Mathlib.Omega.{arith}
@@ -23,11 +23,11 @@ returns c =
     let room : a .at + length head + length content ≤ length xs = omega arith in
     let fits : fitsAt xs (a .at) (a .len) bs ≡ true = and-from _ _ (le-leb (a .len) longest (omega arith)) (le-leb (a .at + length bs) (length xs) (omega arith)) in
     let place : a .at + (1 + c .length-size-head .result) + length content ≡ a .at + length bs = omega arith in
+    let one = wrote xs (a .at) head head (c .write-head .result) (c .write-head .last .out) (omega arith) refl (c .write-head .ensures .fits) (c .write-head .ensures .after) in
     record {
       place = ap Some place ∙ sym (cond-true _ _ _ fits);
       after =
-          wrote-more xs (a .at) head content (c .copy-at .result) (a .at + (1 + c .length-size-head .result)) (c .write-head .last .out) (c .copy-at .last .out)
-          room (wrote xs (a .at) head (c .write-head .result) (c .write-head .last .out) (omega arith) (c .write-head .ensures .fits) (c .write-head .ensures .after))
-          (omega arith) (c .copy-at .ensures .fits) (c .copy-at .ensures .after)
+          wrote-more xs (a .at) head content content (c .copy-at .result) (a .at + (1 + c .length-size-head .result)) (c .write-head .last .out) (c .copy-at .last .out)
+          room one (omega arith) refl (c .copy-at .ensures .fits) (c .copy-at .ensures .after)
           ∙ sym (cond-true _ _ _ fits);
     }
