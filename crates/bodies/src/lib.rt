@@ -1,0 +1,3 @@
+// The bodies of the messages that the equipment sends (SEMI E5).
+pub mod body;
+pub mod write;
