@@ -4,7 +4,7 @@ ghost use mathlib.Core.Bool.{cond};
 ghost use mathlib.Core.List.{_++_};
 ghost use Prim.Native.Nat.{ℕ, _+_, _≤_};
 ghost use lib.Dec.{leb};
-ghost use lib.ListN.{length, take};
+ghost use lib.ListN.{length, take, drop};
 ghost use Rattle.std.specs.declared.option.Option.the-variants.{Some};
 ghost use Rattle.std.specs.Slices.{found};
 ghost use Rattle.octets.specs.Places.{placed};
@@ -91,14 +91,12 @@ impl Body {
     }
 }
 
-// Writes a body at the front of `out` and answers its length. Where `out` is too short, nothing changes.
-pub fn write_body(body: Body, out: &mut [u8]) -> Option<usize>
-    ensures place { λ r. ⌜ r ≡ bodyEnd (now (out .entry)) (bodyOf body) ⌝ }
-    ensures after { λ _. ⌜ now (out .exit) ≡ bodyWritten (now (out .entry)) (bodyOf body) ⌝ }
+// The items of a body at the front of `out`, which has room for them.
+fn write_items(body: Body, out: &mut [u8]) -> Option<usize>
+    requires { ⌜ length (bodyOf body) ≤ length (now out) ⌝ }
+    ensures place { λ r. ⌜ r ≡ Some (length (bodyOf body)) ⌝ }
+    ensures after { λ _. ⌜ now (out .exit) ≡ bodyOf body ++ drop (length (bodyOf body)) (now (out .entry)) ⌝ }
 {
-    if out.len() < body.length() {
-        return None;
-    }
     match body {
         Body::Empty => Some(0),
         Body::Identity => write_identity(out, 0),
@@ -108,4 +106,17 @@ pub fn write_body(body: Body, out: &mut [u8]) -> Option<usize>
         Body::Header(header) => write_header(out, header),
         Body::Acknowledge(code) => write_binary(out, 0, code),
     }
+}
+
+// Writes a body at the front of `out` and answers its length. Where `out` is too short, nothing changes.
+pub fn write_body(body: Body, out: &mut [u8]) -> Option<usize>
+    ensures place { λ r. ⌜ r ≡ bodyEnd (now (out .entry)) (bodyOf body) ⌝ }
+    ensures after { λ _. ⌜ now (out .exit) ≡ bodyWritten (now (out .entry)) (bodyOf body) ⌝ }
+    ensures front { λ r. ⌜ found r (λ n. take n (now (out .exit)) ≡ bodyOf body) ⌝ }
+    ensures surely { λ r. ⌜ (480 ≤ length (now (out .entry)) → r ≡ Some (length (bodyOf body))) ⌝ }
+{
+    if out.len() < body.length() {
+        return None;
+    }
+    write_items(body, out)
 }
