@@ -1,0 +1,118 @@
+-- What is written is read back.
+use mathlib.Core.Path.{_≡_, refl, ap, sym, subst, _∙_}
+use mathlib.Core.Bool.{Bool, true, false, cond}
+use mathlib.Core.Logic.{_⊎_, inl, inr}
+use mathlib.Core.List.{List, [], _∷_, _++_}
+use Prim.Native.Nat.{ℕ, suc, _+_, _-_, _*_, _/_, _%_, _≤_, _<_}
+use native.Mathlib.Nat.{add-zero, add-assoc}
+use native.Mathlib.Omega.{arith}
+use lib.Dec.{eqb, ltb, leb}
+use lib.ListN.{length, getD, take, drop}
+use Rattle.std.specs.Holes.{between}
+use Rattle.std.specs.declared.option.Option.{Option}
+use Rattle.std.specs.declared.option.Option.the-variants.{Some, None}
+use Rattle.std.specs.declared.result.Result.{Result}
+use Rattle.std.specs.declared.result.Result.the-variants.{Ok, Err}
+use Rattle.std.proofs.shelf.Lists.{append-nil, append-assoc, length-append, length-drop, getD-drop, drop-drop, take-at, take-append-drop}
+use Rattle.std.proofs.shelf.Tests.{cond-true, cond-false, lt-ltb, le-ltb, lt-leb, eq-eqb, ne-eqb, cases-bool}
+use Rattle.secs.specs.declared.format.Format.{Format}
+use Rattle.secs.specs.declared.format.Format.the-variants as format
+use Rattle.secs.specs.declared.item.Fault.the-variants.{NoLength}
+use Rattle.secs.specs.Formats.{codeOf, formatOf, Code-found}
+use Rattle.secs.specs.Elements.{isList, contentFault}
+use Rattle.secs.specs.Encode.{lengthSize, lengthBytes, headBytes, itemBytes}
+use Rattle.secs.specs.Decode.{Reading, reading, lengthAt, judged, contentAt, formatAt, itemAt}
+use Rattle.secs.specs.Laws.{Holds, Sound, Reads-back}
+use Rattle.secs.proofs.Encoding.{Sized, one, two, three, sized, length-item}
+
+pub code-found : Code-found
+code-found format.List = refl
+code-found format.Binary = refl
+code-found format.Ascii = refl
+code-found format.U1 = refl
+code-found format.I4 = refl
+code-found format.F4 = refl
+code-found format.U4 = refl
+
+-- format byte and length are read
+front : (frame : List ℕ) (at : ℕ) (f : Format) (k n : ℕ) → getD frame at 0 ≡ codeOf f * 4 + k → 0 < k → k < 4 → k < length frame - at → lengthAt k frame (at + 1) ≡ n
+    → itemAt frame at ≡ contentAt frame f (at + 1 + k) n
+front frame at f k n first low high within len =
+    let b = getD frame at 0 in
+    let q : b / 4 ≡ codeOf f = omega arith in
+    let r : b % 4 ≡ k = omega arith in
+    let nk : k ≡ 0 → ⊥ = λ e. omega arith in
+    cond-false _ _ _ (lt-leb (length frame) at (omega arith))
+    ∙ (ap (λ x. cond (eqb x 0) (Err NoLength) (formatAt frame at x (formatOf (b / 4)))) r
+    ∙ (cond-false _ _ _ (ne-eqb k 0 nk)
+    ∙ (ap (λ x. formatAt frame at k (formatOf x)) q
+    ∙ (ap (formatAt frame at k) (code-found f)
+    ∙ (cond-false _ _ _ (lt-leb (length frame - at) k within)
+    ∙ ap (contentAt frame f (at + 1 + k)) len)))))
+
+-- then the content
+content-read : (frame : List ℕ) (f : Format) (begin n : ℕ) (content rest : List ℕ) → Sound f n content → drop begin frame ≡ content ++ rest
+    → contentAt frame f begin n ≡ Ok (reading f begin n content (begin + length content))
+content-read frame f begin n content rest s here =
+    elim (cases-bool (isList f)) [
+      | inl e ↦ cond-true _ _ _ e
+          ∙ (ap (λ u. Ok (reading f begin n [] u)) (sym (add-zero begin)) ∙ ap (λ xs. Ok (reading f begin n xs (begin + length xs))) (sym (s .empty e)))
+      | inr e ↦
+          let l : length frame - begin ≡ length content + length rest = sym (length-drop begin frame) ∙ (ap length here ∙ length-append content rest) in
+          let long = s .long e in
+          let m : begin + n - begin ≡ n = omega arith in
+          let cut : between begin (begin + n) frame ≡ content = ap (λ x. take x (drop begin frame)) m ∙ (ap (take n) here ∙ take-at content rest n long) in
+          cond-false _ _ _ e
+          ∙ (cond-false _ _ _ (le-ltb (length frame - begin) n (omega arith))
+          ∙ (ap (λ xs. judged f begin n xs (contentFault f xs)) cut
+          ∙ (ap (judged f begin n content) (s .whole e) ∙ ap (λ x. Ok (reading f begin n content (begin + x))) (sym long))))
+    ]
+
+module _ (frame : List ℕ) (at : ℕ) (f : Format) (n : ℕ) (content rest : List ℕ) (s : Sound f n content) where
+  -- a frame that goes on with a format byte, k length bytes and the content
+  goes-on : (k : ℕ) (bs : List ℕ) → drop at frame ≡ (codeOf f * 4 + k) ∷ bs → 0 < k → k < 4 → length bs ≡ k + length (content ++ rest) → drop k bs ≡ content ++ rest
+      → lengthAt k frame (at + 1) ≡ n → itemAt frame at ≡ Ok (reading f (at + 1 + k) n content (at + 1 + k + length content))
+  goes-on k bs here low high long back len =
+      let l : length frame - at ≡ 1 + length bs = sym (length-drop at frame) ∙ (ap length here ∙ (omega arith)) in
+      let b : getD frame at 0 ≡ codeOf f * 4 + k = ap (λ i. getD frame i 0) (sym (add-zero at)) ∙ (sym (getD-drop at frame 0 0) ∙ ap (λ x. getD x 0 0) here) in
+      let d : drop (at + 1 + k) frame ≡ content ++ rest = sym (drop-drop k (at + 1) frame) ∙ (ap (drop k) (sym (drop-drop 1 at frame) ∙ ap (drop 1) here) ∙ back) in
+      front frame at f k n b low high (omega arith) len ∙ content-read frame f (at + 1 + k) n content rest s d
+
+  -- a length byte of the frame
+  byte-at : (bs : List ℕ) (i j : ℕ) → drop at frame ≡ bs → j ≡ at + i → getD frame j 0 ≡ getD bs i 0
+  byte-at bs i j here e = ap (λ x. getD frame x 0) e ∙ (sym (getD-drop at frame i 0) ∙ ap (λ x. getD x i 0) here)
+
+  read-of : drop at frame ≡ itemBytes f n content ++ rest → Sized n → itemAt frame at ≡ Ok (reading f (at + 1 + lengthSize n) n content (at + 1 + lengthSize n + length content))
+  read-of here (one a z b) =
+      let bs = (codeOf f * 4 + 1) ∷ n ∷ (content ++ rest) in
+      let e : drop at frame ≡ bs = here ∙ rw (z, b) refl in
+      goes-on 1 (n ∷ (content ++ rest)) e (omega arith) (omega arith) (omega arith) refl (byte-at bs 1 (at + 1) e refl)
+      ∙ ap (λ k. Ok (reading f (at + 1 + k) n content (at + 1 + k + length content))) (sym z)
+  read-of here (two a a' z b) =
+      let bs = (codeOf f * 4 + 2) ∷ (n / 256) ∷ (n % 256) ∷ (content ++ rest) in
+      let e : drop at frame ≡ bs = here ∙ rw (z, b) refl in
+      let x = byte-at bs 1 (at + 1) e refl in
+      let y = byte-at bs 2 (at + 1 + 1) e (omega arith) in
+      goes-on 2 ((n / 256) ∷ (n % 256) ∷ (content ++ rest)) e (omega arith) (omega arith) (omega arith) refl (omega arith)
+      ∙ ap (λ k. Ok (reading f (at + 1 + k) n content (at + 1 + k + length content))) (sym z)
+  read-of here (three a z b) =
+      let bs = (codeOf f * 4 + 3) ∷ (n / 65536) ∷ (n / 256 % 256) ∷ (n % 256) ∷ (content ++ rest) in
+      let e : drop at frame ≡ bs = here ∙ rw (z, b) refl in
+      let x = byte-at bs 1 (at + 1) e refl in
+      let y = byte-at bs 2 (at + 1 + 1) e (omega arith) in
+      let w = byte-at bs 3 (at + 1 + 2) e (omega arith) in
+      goes-on 3 ((n / 65536) ∷ (n / 256 % 256) ∷ (n % 256) ∷ (content ++ rest)) e (omega arith) (omega arith) (omega arith) refl (omega arith)
+      ∙ ap (λ k. Ok (reading f (at + 1 + k) n content (at + 1 + k + length content))) (sym z)
+
+-- a frame that has bytes at a place goes on with them
+pub holds-drop : (frame : List ℕ) (at : ℕ) (bs : List ℕ) → Holds frame at bs → drop at frame ≡ bs ++ drop (length bs) (drop at frame)
+holds-drop frame at bs h =
+    let m : at + length bs - at ≡ length bs = omega arith in
+    sym (take-append-drop (length bs) (drop at frame)) ∙ ap (λ x. x ++ drop (length bs) (drop at frame)) (ap (λ x. take x (drop at frame)) (sym m) ∙ h)
+
+pub reads-back : Reads-back
+reads-back frame at f n content s h =
+    let l = length-item f n content in
+    let p : at + 1 + lengthSize n + length content ≡ at + length (itemBytes f n content) = omega arith in
+    read-of frame at f n content (drop (length (itemBytes f n content)) (drop at frame)) s (holds-drop frame at (itemBytes f n content) h) (sized n)
+    ∙ ap (λ x. Ok (reading f (at + 1 + lengthSize n) n content x)) p

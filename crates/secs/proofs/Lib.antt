@@ -1,0 +1,4 @@
+pub mod Tables
+pub mod Encoding
+pub mod Decoding
+pub mod Rewriting

@@ -1,0 +1,5 @@
+pub mod Formats
+pub mod Elements
+pub mod Encode
+pub mod Decode
+pub mod Laws

@@ -1,0 +1,7 @@
+// SECS-II items (SEMI E5): formats, the item reader and the item writer.
+pub mod elements;
+pub mod format;
+pub mod item;
+pub mod laws;
+pub mod read;
+pub mod write;
