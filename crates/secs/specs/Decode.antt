@@ -1,6 +1,7 @@
 -- The item that stands at a place of a frame.
-use Prim.Native.Nat.{ℕ, _+_, _-_, _*_, _/_, _%_}
-use mathlib.Core.Bool.{Bool, cond}
+use Prim.Native.Nat.{ℕ, _+_, _-_, _*_, _/_, _%_, _≤_}
+use mathlib.Core.Path.{_≡_}
+use mathlib.Core.Bool.{Bool, false, cond}
 use mathlib.Core.List.{List, []}
 use lib.Dec.{eqb, ltb, leb}
 use lib.ListN.{length, getD}
@@ -63,3 +64,8 @@ itemAt frame at =
 abbrev pub seen : Result Item Fault → Result Reading Fault
 seen (Ok i) = Ok (reading (i .format) (i .begin) (i .length) (now (i .content)) (i .next))
 seen (Err fault) = Err fault
+
+-- an item's content lies in the frame, and is as long as the item says unless it is a list
+pub record Within (i : Item) (frame : List ℕ) : Type 0 where
+  pub inside : i .begin + length (now (i .content)) ≤ length frame
+  pub long : isList (i .format) ≡ false → length (now (i .content)) ≡ i .length

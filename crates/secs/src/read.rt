@@ -2,7 +2,8 @@
 ghost use mathlib.Core.Path.{_≡_};
 ghost use Prim.Native.Nat.{ℕ, _+_, _≤_};
 ghost use lib.ListN.{length};
-ghost use Rattle.secs.specs.Decode.{lengthAt, contentAt, itemAt, seen};
+ghost use Rattle.std.specs.Vec.{made};
+ghost use Rattle.secs.specs.Decode.{lengthAt, contentAt, itemAt, seen, Within};
 use crate::elements::content_fault;
 use crate::format::Format;
 use crate::item::Fault;
@@ -28,7 +29,8 @@ fn read_content<'a>(
     len: usize,
 ) -> Result<Item<'a>, Fault>
     requires { ⌜ begin ≤ length (now frame) ⌝ }
-    ensures { λ r. ⌜ seen r ≡ contentAt (now (frame .entry)) format begin len ⌝ }
+    ensures item { λ r. ⌜ seen r ≡ contentAt (now (frame .entry)) format begin len ⌝ }
+    ensures within { λ r. ⌜ made r (λ i. Within i (now (frame .entry))) ⌝ }
 {
     if let Format::List = format {
         return Ok(Item {
@@ -57,7 +59,8 @@ fn read_content<'a>(
 
 // The item that stands at `at`. Its content is a part of the frame.
 pub fn read_item<'a>(frame: &'a [u8], at: usize) -> Result<Item<'a>, Fault>
-    ensures { λ r. ⌜ seen r ≡ itemAt (now (frame .entry)) at ⌝ }
+    ensures item { λ r. ⌜ seen r ≡ itemAt (now (frame .entry)) at ⌝ }
+    ensures within { λ r. ⌜ made r (λ i. Within i (now (frame .entry))) ⌝ }
 {
     if at >= frame.len() {
         return Err(Fault::PastEnd);
