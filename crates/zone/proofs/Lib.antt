@@ -1,1 +1,2 @@
 pub mod Reals
+pub mod Bands

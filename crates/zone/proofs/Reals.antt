@@ -1,7 +1,6 @@
 -- Facts about real values.
 use mathlib.Core.Path.{_≡_, refl, sym, ap, _∙_}
-use mathlib.Core.Bool.{Bool, true, false}
-use std.Sets.{Bool-set}
+use mathlib.Core.Bool.{Bool, true, false, Bool-set}
 use lib.Ieee.{Float, isNan}
 use Rattle.std.specs.declared.option.Option.{Option}
 use Rattle.std.specs.declared.option.Option.the-variants.{Some, None}

@@ -1,3 +1,3 @@
 pub mod Reals
 pub mod Wholes
-pub mod Trial
+pub mod Zones

@@ -1,6 +1,5 @@
-// Values, their order, and the zones of a variable's bands.
-pub mod real;
-pub mod number;
+// Values and their order, and the zones of a variable's bands.
 pub mod kind;
+pub mod number;
+pub mod real;
 pub mod rule;
-pub mod table;

@@ -1,4 +1,7 @@
-use crate::real::Real;
+// The zone rule and the bands of a variable, once for every kind of value.
+ghost use mathlib.Core.Path.{_≡_};
+ghost use Rattle.zone.specs.Zones.{zoneAfter, bandAfter, bandMoves, placeAfter, placeMoves, bandsAfter, anyMoves};
+use crate::kind::ValueKind;
 
 // Where a variable's value last was against a band.
 #[derive(Clone, Copy, PartialEq, Eq, Debug)]
@@ -8,7 +11,7 @@ pub enum Zone {
     Below,
 }
 
-// Two bounds, and the zone that the samples so far gave.
+// Two bounds, and the zone that the samples so far brought.
 #[derive(Clone, Copy)]
 pub struct Band<K> {
     pub lower: K,
@@ -16,11 +19,55 @@ pub struct Band<K> {
     pub zone: Zone,
 }
 
-// The bands of one variable; number n stands at place n - 1.
+// The bands of one variable: number n at place n - 1.
 pub type Bands<K> = [Option<Band<K>>; 7];
 
-#[derive(Clone, Copy)]
-pub enum Variable {
-    Whole(Bands<i32>),
-    Real(Bands<Real>),
+impl<K: ValueKind> Band<K> {
+    // The zone that a value brings: ABOVE from another zone where it is at least the upper bound, else BELOW from another
+    // zone where it is at most the lower one, else the zone as it was.
+    pub fn zone_after(&self, value: &K) -> Zone
+        ensures { λ r. ⌜ r ≡ zoneAfter (K·ValueKind .atMost) (now (value .entry)) (now (self .entry)) ⌝ }
+    {
+        if self.zone != Zone::Above && self.upper.at_most(value) {
+            Zone::Above
+        } else if self.zone != Zone::Below && value.at_most(&self.lower) {
+            Zone::Below
+        } else {
+            self.zone
+        }
+    }
+
+    // Takes a sample, and answers whether the zone moved.
+    pub fn sample(&mut self, value: &K) -> bool
+        ensures moved { λ r. ⌜ r ≡ bandMoves (K·ValueKind .atMost) (now (value .entry)) (now (self .entry)) ⌝ }
+        ensures after { λ _. ⌜ now (self .exit) ≡ bandAfter (K·ValueKind .atMost) (now (value .entry)) (now (self .entry)) ⌝ }
+    {
+        let next = self.zone_after(value);
+        let moved = next != self.zone;
+        self.zone = next;
+        moved
+    }
+}
+
+// The same at a place of the bands, which may be free.
+fn sample_place<K: ValueKind>(place: &mut Option<Band<K>>, value: &K) -> bool
+    ensures moved { λ r. ⌜ r ≡ placeMoves (K·ValueKind .atMost) (now (value .entry)) (now (place .entry)) ⌝ }
+    ensures after { λ _. ⌜ now (place .exit) ≡ placeAfter (K·ValueKind .atMost) (now (value .entry)) (now (place .entry)) ⌝ }
+{
+    match place {
+        Some(band) => band.sample(value),
+        None => false,
+    }
+}
+
+// Gives every band of a variable the same sample, and answers whether any moved.
+pub fn sample<K: ValueKind>(bands: &mut [Option<Band<K>>], value: &K) -> bool
+    ensures moved { λ r. ⌜ r ≡ anyMoves (K·ValueKind .atMost) (now (value .entry)) (now (bands .entry)) ⌝ }
+    ensures after { λ _. ⌜ now (bands .exit) ≡ bandsAfter (K·ValueKind .atMost) (now (value .entry)) (now (bands .entry)) ⌝ }
+{
+    let mut moved = false;
+    for place in bands.iter_mut() {
+        moved |= sample_place(place, value);
+    }
+    moved
 }
