@@ -9,6 +9,8 @@ use Rattle.std.specs.declared.option.Option.{Option}
 use Rattle.std.proofs.shelf.Lists.{length-map, length-take, take-more, take-all, drop-more, drop-all, append-nil, getD-at}
 use Rattle.std.proofs.shelf.Edits.{map-over-more}
 use Rattle.zone.specs.declared.rule.Band.{Band}
+use Rattle.std.proofs.shelf.Tests.{and-parts, leb-true}
+use Rattle.zone.specs.Places.{isFree}
 use Rattle.zone.specs.Zones.{placeAfter, placeMoves, anyMoves}
 
 -- an element that a pass over a list has not come to yet is as it was
@@ -51,3 +53,9 @@ module _ {K : Type 0} (atMost : K → K → Bool) (value : K) where
     k ∙ ap (anyMoves atMost value) (take-all i xs le),
     h ∙ (λ j. map (placeAfter atMost value) (take-all i xs le j) ++ drop-all i xs le j) ∙ append-nil _,
   )
+
+-- a free number is that of a place
+pub free-within : {K : Type 0} (xs : List (Option (Band K))) (number : ℕ) → isFree xs number ≡ true → (1 ≤ number) × (number ≤ length xs)
+free-within xs number e =
+    let p = and-parts _ _ (and-parts _ _ e .0) in
+    (leb-true 1 number (p .0), leb-true number (length xs) (p .1))

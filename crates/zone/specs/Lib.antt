@@ -1,3 +1,5 @@
 pub mod Reals
 pub mod Wholes
 pub mod Zones
+pub mod Places
+pub mod Variables

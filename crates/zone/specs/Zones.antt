@@ -56,3 +56,7 @@ bandsAfter atMost value places = map (placeAfter atMost value) places
 abbrev pub anyMoves : {K : Type 0} → (K → K → Bool) → K → List (Option (Band K)) → Bool
 anyMoves atMost value [] = false
 anyMoves atMost value (place ∷ rest) = placeMoves atMost value place || anyMoves atMost value rest
+
+-- the band of two bounds, in NO ZONE, or none where the lower is not at most the upper
+abbrev pub bandMade : {K : Type 0} → (K → K → Bool) → K → K → Option (Band K)
+bandMade atMost lower upper = cond (atMost lower upper) (Some (record { lower = lower; upper = upper; zone = NoZone })) None

@@ -1,6 +1,6 @@
 // The zone rule and the bands of a variable, once for every kind of value.
 ghost use mathlib.Core.Path.{_≡_};
-ghost use Rattle.zone.specs.Zones.{zoneAfter, bandAfter, bandMoves, placeAfter, placeMoves, bandsAfter, anyMoves};
+ghost use Rattle.zone.specs.Zones.{bandMade, zoneAfter, bandAfter, bandMoves, placeAfter, placeMoves, bandsAfter, anyMoves};
 use crate::kind::ValueKind;
 
 // Where a variable's value last was against a band.
@@ -21,6 +21,23 @@ pub struct Band<K> {
 
 // The bands of one variable: number n at place n - 1.
 pub type Bands<K> = [Option<Band<K>>; 7];
+
+impl<K: ValueKind + Copy> Band<K> {
+    // A band in NO ZONE, or none where the lower bound is above the upper one.
+    pub fn new(lower: K, upper: K) -> Option<Band<K>>
+        ensures { λ r. ⌜ r ≡ bandMade (K·ValueKind .atMost) lower upper ⌝ }
+    {
+        if lower.at_most(&upper) {
+            Some(Band {
+                lower,
+                upper,
+                zone: Zone::NoZone,
+            })
+        } else {
+            None
+        }
+    }
+}
 
 impl<K: ValueKind> Band<K> {
     // The zone that a value brings: ABOVE from another zone where it is at least the upper bound, else BELOW from another
