@@ -1,2 +1,3 @@
 pub mod Reals
 pub mod Bands
+pub mod Laws

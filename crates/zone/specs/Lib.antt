@@ -3,3 +3,4 @@ pub mod Wholes
 pub mod Zones
 pub mod Places
 pub mod Variables
+pub mod Laws

@@ -42,26 +42,14 @@ pub trait ValueKind: Sized {
     fn at_most(&self, other: &Self) -> bool
         ensures { λ r. ⌜ r ≡ atMost (now (self .entry)) (now (other .entry)) ⌝ };
 
-    fn to_word(&self) -> u32
-        ensures value { λ r. ⌜ r ≡ bits (now (self .entry)) ⌝ }
-        ensures back { λ r. ⌜ ofBits r ≡ Some (now (self .entry)) ⌝ };
-
-    fn from_word(word: u32) -> Option<Self>
-        ensures { λ r. ⌜ r ≡ ofBits word ⌝ };
-
     // The content of an item that holds this value alone.
     fn to_bytes(&self) -> [u8; 4]
         ensures value { λ r. ⌜ r ≡ be4 (bits (now (self .entry))) ⌝ }
-        ensures back { λ r. ⌜ ofBits (num4 r 0) ≡ Some (now (self .entry)) ⌝ }
-    {
-        self.to_word().to_be_bytes()
-    }
+        ensures back { λ r. ⌜ ofBits (num4 r 0) ≡ Some (now (self .entry)) ⌝ };
 
+    // The value of such an item, where its content is one.
     fn from_bytes(bytes: [u8; 4]) -> Option<Self>
-        ensures { λ r. ⌜ r ≡ ofBits (num4 bytes 0) ⌝ }
-    {
-        Self::from_word(u32::from_be_bytes(bytes))
-    }
+        ensures { λ r. ⌜ r ≡ ofBits (num4 bytes 0) ⌝ };
 }
 
 pub impl ValueKind for i32 as WholeKind {
@@ -89,12 +77,12 @@ pub impl ValueKind for i32 as WholeKind {
         *self <= *other
     }
 
-    fn to_word(&self) -> u32 {
-        self.cast_unsigned()
+    fn to_bytes(&self) -> [u8; 4] {
+        self.cast_unsigned().to_be_bytes()
     }
 
-    fn from_word(word: u32) -> Option<i32> {
-        Some(word.cast_signed())
+    fn from_bytes(bytes: [u8; 4]) -> Option<i32> {
+        Some(u32::from_be_bytes(bytes).cast_signed())
     }
 }
 
@@ -123,11 +111,11 @@ pub impl ValueKind for Real as RealKind {
         self.value <= other.value
     }
 
-    fn to_word(&self) -> u32 {
-        self.to_bits()
+    fn to_bytes(&self) -> [u8; 4] {
+        self.to_bits().to_be_bytes()
     }
 
-    fn from_word(word: u32) -> Option<Real> {
-        Real::from_bits(word)
+    fn from_bytes(bytes: [u8; 4]) -> Option<Real> {
+        Real::from_bits(u32::from_be_bytes(bytes))
     }
 }

@@ -17,15 +17,8 @@ impl Real {
         }
     }
 
-    pub fn get(self) -> f32
-        ensures value { λ r. ⌜ r ≡ self .value ⌝ }
-        ensures back { λ r. ⌜ realOf r ≡ Some self ⌝ }
-    {
-        self.value
-    }
-
     // The real value that 32 bits are, or none where they are a NaN.
-    pub fn from_bits(bits: u32) -> Option<Real>
+    pub(crate) fn from_bits(bits: u32) -> Option<Real>
         ensures { λ r. ⌜ r ≡ realOfBits bits ⌝ }
     {
         if bits % 0x8000_0000 <= 0x7f80_0000 {
@@ -35,7 +28,7 @@ impl Real {
         }
     }
 
-    pub fn to_bits(self) -> u32
+    pub(crate) fn to_bits(self) -> u32
         ensures value { λ r. ⌜ r ≡ toBits binary32 (self .value) ⌝ }
         ensures back { λ r. ⌜ realOfBits r ≡ Some self ⌝ }
     {

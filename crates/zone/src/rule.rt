@@ -1,6 +1,7 @@
 // The zone rule and the bands of a variable, once for every kind of value.
 ghost use mathlib.Core.Path.{_≡_};
 ghost use Rattle.zone.specs.Zones.{bandMade, zoneAfter, bandAfter, bandMoves, placeAfter, placeMoves, bandsAfter, anyMoves};
+ghost use Rattle.zone.specs.Laws.{Rises, Falls, Rests, Settles, Alternates};
 use crate::kind::ValueKind;
 
 // Where a variable's value last was against a band.
@@ -14,9 +15,9 @@ pub enum Zone {
 // Two bounds, and the zone that the samples so far brought.
 #[derive(Clone, Copy)]
 pub struct Band<K> {
-    pub lower: K,
-    pub upper: K,
-    pub zone: Zone,
+    pub(crate) lower: K,
+    pub(crate) upper: K,
+    pub(crate) zone: Zone,
 }
 
 // The bands of one variable: number n at place n - 1.
@@ -42,7 +43,7 @@ impl<K: ValueKind + Copy> Band<K> {
 impl<K: ValueKind> Band<K> {
     // The zone that a value brings: ABOVE from another zone where it is at least the upper bound, else BELOW from another
     // zone where it is at most the lower one, else the zone as it was.
-    pub fn zone_after(&self, value: &K) -> Zone
+    fn zone_after(&self, value: &K) -> Zone
         ensures { λ r. ⌜ r ≡ zoneAfter (K·ValueKind .atMost) (now (value .entry)) (now (self .entry)) ⌝ }
     {
         if self.zone != Zone::Above && self.upper.at_most(value) {
@@ -58,6 +59,11 @@ impl<K: ValueKind> Band<K> {
     pub fn sample(&mut self, value: &K) -> bool
         ensures moved { λ r. ⌜ r ≡ bandMoves (K·ValueKind .atMost) (now (value .entry)) (now (self .entry)) ⌝ }
         ensures after { λ _. ⌜ now (self .exit) ≡ bandAfter (K·ValueKind .atMost) (now (value .entry)) (now (self .entry)) ⌝ }
+        ensures rises { λ _. ⌜ Rises (K·ValueKind .atMost) (now (value .entry)) (now (self .entry)) (now (self .exit)) ⌝ }
+        ensures falls { λ _. ⌜ Falls (K·ValueKind .atMost) (now (value .entry)) (now (self .entry)) (now (self .exit)) ⌝ }
+        ensures rests { λ r. ⌜ Rests (K·ValueKind .atMost) (now (value .entry)) (now (self .entry)) r (now (self .exit)) ⌝ }
+        ensures settles { λ _. ⌜ Settles (K·ValueKind .atMost) (now (value .entry)) (now (self .exit)) ⌝ }
+        ensures alternates { λ r. ⌜ Alternates (K·ValueKind .atMost) (now (value .entry)) (now (self .entry)) r ⌝ }
     {
         let next = self.zone_after(value);
         let moved = next != self.zone;
