@@ -1,6 +1,4 @@
-pub mod Reals
-pub mod Wholes
 pub mod Zones
+pub mod Laws
 pub mod Places
 pub mod Variables
-pub mod Laws

@@ -1,7 +1,4 @@
-// Values and their order, and the zones of a variable's bands.
-pub mod kind;
-pub mod number;
+// The zones of a variable's bands, which samples move.
 pub mod places;
-pub mod real;
 pub mod rule;
 pub mod variable;

@@ -2,7 +2,7 @@
 ghost use mathlib.Core.Path.{_≡_};
 ghost use Rattle.zone.specs.Zones.{bandMade, zoneAfter, bandAfter, bandMoves, placeAfter, placeMoves, bandsAfter, anyMoves};
 ghost use Rattle.zone.specs.Laws.{Rises, Falls, Rests, Settles, Alternates};
-use crate::kind::ValueKind;
+use value::kind::ValueKind;
 
 // Where a variable's value last was against a band.
 #[derive(Clone, Copy, PartialEq, Eq, Debug)]

@@ -1,16 +1,16 @@
 // A variable: its kind, and its bands, which samples move.
 ghost use mathlib.Core.Path.{_≡_};
 ghost use Rattle.zone.specs.Variables.{emptyOf, kindOf, sampleFaultCode, wholeBand, realBand, wholeValue, realValue, bandAnswer, withBand, sampleAnswer, sampleAfter, zoneOf};
-use crate::kind::RealKind;
-use crate::kind::ValueKind;
-use crate::kind::WholeKind;
 use crate::places;
 use crate::places::BandAnswer;
-use crate::real::Real;
 use crate::rule;
 use crate::rule::Band;
 use crate::rule::Bands;
 use crate::rule::Zone;
+use value::kind::RealKind;
+use value::kind::ValueKind;
+use value::kind::WholeKind;
+use value::real::Real;
 
 #[derive(Clone, Copy, PartialEq, Eq, Debug)]
 pub enum Kind {

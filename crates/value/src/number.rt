@@ -2,7 +2,7 @@
 ghost use mathlib.Core.Path.{_≡_};
 ghost use lib.Ieee.{le, toBits, binary32};
 ghost use Rattle.std.specs.declared.option.Option.the-variants.{Some};
-ghost use Rattle.zone.specs.Reals.{realOf, realOfBits};
+ghost use Rattle.value.specs.Reals.{realOf, realOfBits};
 use crate::real::Real;
 
 impl Real {

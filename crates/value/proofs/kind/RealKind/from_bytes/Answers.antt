@@ -1,8 +1,8 @@
 use mathlib.Core.Path.{_≡_, ap, _∙_}
 use borrow.Author.Needs.{needs}
 use Rattle.octets.specs.Big.{num4}
-use Rattle.zone.specs.Reals.{realOfBits}
-use Rattle.zone.proofs.kind.RealKind.from_bytes.Needs as need
+use Rattle.value.specs.Reals.{realOfBits}
+use Rattle.value.proofs.kind.RealKind.from_bytes.Needs as need
 
 pub returns : need.returns
 returns c =

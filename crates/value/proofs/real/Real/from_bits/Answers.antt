@@ -6,8 +6,8 @@ use native.Mathlib.Omega.{arith}
 use borrow.Author.Needs.{needs}
 use Rattle.std.proofs.shelf.Tests.{le-ltb, lt-ltb, not-from-false}
 use Rattle.std.proofs.num.Compares.{fails}
-use Rattle.zone.proofs.Reals.{none-of}
-use Rattle.zone.proofs.real.Real.from_bits.Needs as need
+use Rattle.value.proofs.Reals.{none-of}
+use Rattle.value.proofs.real.Real.from_bits.Needs as need
 
 pub float-from-bits-bits : need.float-from-bits-bits
 float-from-bits-bits c = fails _ (nanBits-above binary32 (c .args .bits) ∙ le-ltb _ _ (omega arith))
