@@ -3,9 +3,13 @@
 use mathlib.Core.Path.{_≡_}
 use mathlib.Core.Bool.{Bool, true, false}
 use mathlib.Core.Logic.{_⊎_}
+use mathlib.Core.List.{List}
+use Rattle.std.specs.shelf.Lists.{All}
+use Rattle.std.specs.declared.option.Option.{Option}
+use Rattle.std.specs.declared.option.Option.the-variants.{Some, None}
 use Rattle.zone.specs.declared.rule.Band.{Band}
 use Rattle.zone.specs.declared.rule.Zone.the-variants.{NoZone, Above, Below}
-use Rattle.zone.specs.Zones.{bandMoves, bandAfter}
+use Rattle.zone.specs.Zones.{bandMoves, bandAfter, anyMoves, bandsAfter}
 
 -- x is at most y
 abbrev pub AtMost : {K : Type 0} → (K → K → Bool) → K → K → Type 0
@@ -43,3 +47,18 @@ Settles atMost value after =
 abbrev pub Alternates : {K : Type 0} → (K → K → Bool) → K → Band K → Bool → Type 0
 Alternates atMost value before moved =
     AtMost atMost (before .upper) value → AtMost atMost value (before .lower) → moved ≡ true
+
+-- the band at a place, if any, has its lower bound strictly below its upper one
+abbrev pub Wide : {K : Type 0} → (K → K → Bool) → Option (Band K) → Type 0
+Wide atMost None = Unit {0}
+Wide atMost (Some band) = Under atMost (band .lower) (band .upper)
+
+-- the band at a place, if any, has its lower bound at most at its upper one
+abbrev pub Ordered : {K : Type 0} → (K → K → Bool) → Option (Band K) → Type 0
+Ordered atMost None = Unit {0}
+Ordered atMost (Some band) = AtMost atMost (band .lower) (band .upper)
+
+-- where that holds of every band, the same value once more moves none
+abbrev pub AllSettle : {K : Type 0} → (K → K → Bool) → K → List (Option (Band K)) → Type 0
+AllSettle atMost value after =
+    All (Wide atMost) after → (anyMoves atMost value after ≡ false) × (bandsAfter atMost value after ≡ after)

@@ -5,6 +5,7 @@ use mathlib.Core.List.{List}
 use lib.IntN.{ℤ}
 use lib.Signed.{leZ}
 use lib.ListN.{replicate}
+use Rattle.std.specs.shelf.Lists.{All}
 use Rattle.std.specs.declared.option.Option.{Option}
 use Rattle.std.specs.declared.option.Option.the-variants.{Some, None}
 use Rattle.std.specs.declared.result.Result.{Result}
@@ -25,6 +26,7 @@ use Rattle.zone.specs.declared.variable.SampleFault.{SampleFault}
 use Rattle.zone.specs.declared.variable.SampleFault.the-variants.{OtherKind, NotANumber}
 use Rattle.value.specs.Reals.{realOf, realAtMost}
 use Rattle.zone.specs.Zones.{bandMade, bandsAfter, anyMoves}
+use Rattle.zone.specs.Laws.{Ordered}
 use Rattle.zone.specs.Places.{addAnswer, addAfter, zoneAt}
 
 -- the code of each refusal of a sample
@@ -107,3 +109,8 @@ sampleAfter (variable.Real bands) given = variable.Real (movedBy realAtMost (rea
 abbrev pub zoneOf : Variable → ℕ → Option Zone
 zoneOf (variable.Whole bands) number = zoneAt bands number
 zoneOf (variable.Real bands) number = zoneAt bands number
+
+-- every band of a variable has its lower bound at most at its upper one
+abbrev pub AllOrdered : Variable → Type 0
+AllOrdered (variable.Whole bands) = All (Ordered leZ) bands
+AllOrdered (variable.Real bands) = All (Ordered realAtMost) bands

@@ -1,7 +1,7 @@
 // The zone rule and the bands of a variable, once for every kind of value.
 ghost use mathlib.Core.Path.{_≡_};
 ghost use Rattle.zone.specs.Zones.{bandMade, zoneAfter, bandAfter, bandMoves, placeAfter, placeMoves, bandsAfter, anyMoves};
-ghost use Rattle.zone.specs.Laws.{Rises, Falls, Rests, Settles, Alternates};
+ghost use Rattle.zone.specs.Laws.{AllSettle, Rises, Falls, Rests, Settles, Alternates};
 use value::kind::ValueKind;
 
 // Where a variable's value last was against a band.
@@ -87,6 +87,7 @@ fn sample_place<K: ValueKind>(place: &mut Option<Band<K>>, value: &K) -> bool
 pub fn sample<K: ValueKind>(bands: &mut [Option<Band<K>>], value: &K) -> bool
     ensures moved { λ r. ⌜ r ≡ anyMoves (K·ValueKind .atMost) (now (value .entry)) (now (bands .entry)) ⌝ }
     ensures after { λ _. ⌜ now (bands .exit) ≡ bandsAfter (K·ValueKind .atMost) (now (value .entry)) (now (bands .entry)) ⌝ }
+    ensures settles { λ _. ⌜ AllSettle (K·ValueKind .atMost) (now (value .entry)) (now (bands .exit)) ⌝ }
 {
     let mut moved = false;
     for place in bands.iter_mut() {

@@ -1,6 +1,6 @@
 // A variable: its kind, and its bands, which samples move.
 ghost use mathlib.Core.Path.{_≡_};
-ghost use Rattle.zone.specs.Variables.{emptyOf, kindOf, sampleFaultCode, wholeBand, realBand, wholeValue, realValue, bandAnswer, withBand, sampleAnswer, sampleAfter, zoneOf};
+ghost use Rattle.zone.specs.Variables.{AllOrdered, emptyOf, kindOf, sampleFaultCode, wholeBand, realBand, wholeValue, realValue, bandAnswer, withBand, sampleAnswer, sampleAfter, zoneOf};
 use crate::places;
 use crate::places::BandAnswer;
 use crate::rule;
@@ -108,7 +108,8 @@ impl Sample {
 impl Variable {
     // A variable without bands.
     pub fn new(kind: Kind) -> Variable
-        ensures { λ r. ⌜ r ≡ emptyOf kind ⌝ }
+        ensures value { λ r. ⌜ r ≡ emptyOf kind ⌝ }
+        ensures ordered { λ r. ⌜ AllOrdered r ⌝ }
     {
         match kind {
             Kind::Whole => Variable::Whole([None; 7]),
@@ -139,6 +140,7 @@ impl Variable {
     pub fn add_band(&mut self, number: u32, bounds: Bounds) -> BandAnswer
         ensures answer { λ r. ⌜ r ≡ bandAnswer (now (self .entry)) number bounds ⌝ }
         ensures after { λ _. ⌜ now (self .exit) ≡ withBand (now (self .entry)) number bounds ⌝ }
+        ensures ordered { λ _. ⌜ (AllOrdered (now (self .entry)) → AllOrdered (now (self .exit))) ⌝ }
     {
         match self {
             Variable::Whole(bands) => places::add(bands, number, bounds.whole_band()),
@@ -150,6 +152,7 @@ impl Variable {
     pub fn sample(&mut self, sample: Sample) -> Result<bool, SampleFault>
         ensures answer { λ r. ⌜ r ≡ sampleAnswer (now (self .entry)) sample ⌝ }
         ensures after { λ _. ⌜ now (self .exit) ≡ sampleAfter (now (self .entry)) sample ⌝ }
+        ensures ordered { λ _. ⌜ (AllOrdered (now (self .entry)) → AllOrdered (now (self .exit))) ⌝ }
     {
         match self {
             Variable::Whole(bands) => {
