@@ -1,0 +1,2 @@
+// The rules of the equipment on communications, control and reports, for any two stores.
+pub mod state;
