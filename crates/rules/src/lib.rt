@@ -1,2 +1,4 @@
 // The rules of the equipment on communications, control and reports, for any two stores.
+pub mod report;
+pub mod send;
 pub mod state;

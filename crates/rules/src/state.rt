@@ -1,5 +1,5 @@
-use sending::outbox::Outbox;
 use lines::journal::Journal;
+use sending::outbox::Outbox;
 use setup::plan::Setup;
 use setup::settings::Settings;
 use spooling::state::Reports;

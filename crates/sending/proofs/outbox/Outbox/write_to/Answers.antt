@@ -26,9 +26,9 @@ returns-in-Some c =
     let bytes : Option Header → List ℕ = λ o. frameBytes (sentWith o b) in
     record {
       answer =
-        subst (λ (o : Option Header). c .write-frame .result ≡ cond (leb (length (bytes o)) (length out)) (Some (length (bytes o))) None) (sym (c .in-Some .is))
-        (w .place ∙ (ap (λ n. frameEnd out 0 (take n (s .body))) z ∙ frame-answer out h b short));
+          subst (λ (o : Option Header). c .write-frame .result ≡ cond (leb (length (bytes o)) (length out)) (Some (length (bytes o))) None) (sym (c .in-Some .is))
+          (w .place ∙ (ap (λ n. frameEnd out 0 (take n (s .body))) z ∙ frame-answer out h b short));
       after =
-        subst (λ (o : Option Header). c .write-frame .last .out ≡ cond (leb (length (bytes o)) (length out)) (onBuffer (bytes o) out) out) (sym (c .in-Some .is))
-        (w .after ∙ (ap (λ n. frameWritten out 0 h (take n (s .body))) z ∙ frame-after out h b short));
+          subst (λ (o : Option Header). c .write-frame .last .out ≡ cond (leb (length (bytes o)) (length out)) (onBuffer (bytes o) out) out) (sym (c .in-Some .is))
+          (w .after ∙ (ap (λ n. frameWritten out 0 h (take n (s .body))) z ∙ frame-after out h b short));
     }
