@@ -1,3 +1,5 @@
-pub mod Views
-pub mod Sends
+pub mod ControlRules
+pub mod LinkRules
 pub mod Reporting
+pub mod Sends
+pub mod Views
