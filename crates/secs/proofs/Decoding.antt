@@ -26,10 +26,17 @@ use Rattle.secs.specs.Formats.{codeOf, formatOf, Code-found}
 use Rattle.secs.specs.Elements.{isList, contentFault}
 use Rattle.secs.specs.Encode.{longest, lengthSize, lengthBytes, headBytes, itemBytes, placeAfter, fitsAt, listBytes, valueBytes, writable, itemFits, itemEnd, itemWritten, listEnd, listWritten}
 use Rattle.secs.specs.Decode.{Reading, reading, lengthAt, judged, contentAt, formatAt, itemAt}
-use Rattle.secs.specs.Laws.{Holds, Sound, Reads-back, List-back, Item-back}
+use Rattle.secs.specs.Laws.{Holds, List-back, Item-back}
 use Rattle.secs.proofs.Encoding.{Sized, one, two, three, sized, length-item}
 
-pub code-found : Code-found
+-- what an item can be: a list has no content of its own; any other item's length is that of its content, which has no fault
+record Sound (f : Format) (n : ℕ) (content : List ℕ) : Type 0 where
+  small : n ≤ longest
+  empty : isList f ≡ true → content ≡ []
+  long : isList f ≡ false → length content ≡ n
+  whole : isList f ≡ false → contentFault f content ≡ None
+
+code-found : Code-found
 code-found format.List = refl
 code-found format.Binary = refl
 code-found format.Ascii = refl
@@ -109,12 +116,14 @@ module _ (frame : List ℕ) (at : ℕ) (f : Format) (n : ℕ) (content rest : Li
       ∙ ap (λ k. Ok (reading f (at + 1 + k) n content (at + 1 + k + length content))) (sym z)
 
 -- a frame that has bytes at a place goes on with them
-pub holds-drop : (frame : List ℕ) (at : ℕ) (bs : List ℕ) → Holds frame at bs → drop at frame ≡ bs ++ drop (length bs) (drop at frame)
+holds-drop : (frame : List ℕ) (at : ℕ) (bs : List ℕ) → Holds frame at bs → drop at frame ≡ bs ++ drop (length bs) (drop at frame)
 holds-drop frame at bs h =
     let m : at + length bs - at ≡ length bs = omega arith in
     sym (take-append-drop (length bs) (drop at frame)) ∙ ap (λ x. x ++ drop (length bs) (drop at frame)) (ap (λ x. take x (drop at frame)) (sym m) ∙ h)
 
-pub reads-back : Reads-back
+-- an item that is in a frame at a place is read there, with its place
+reads-back : (frame : List ℕ) (at : ℕ) (f : Format) (n : ℕ) (content : List ℕ) → Sound f n content → Holds frame at (itemBytes f n content)
+    → itemAt frame at ≡ Ok (reading f (at + 1 + lengthSize n) n content (at + length (itemBytes f n content)))
 reads-back frame at f n content s h =
     let l = length-item f n content in
     let p : at + 1 + lengthSize n + length content ≡ at + length (itemBytes f n content) = omega arith in

@@ -25,7 +25,7 @@ use Rattle.secs.specs.Formats.{codeOf, withCode, everyFormat, formatOf, Found-
 use Rattle.secs.specs.Elements.{isList, contentFault}
 use Rattle.secs.specs.Encode.{lengthSize, lengthBytes, headBytes, itemBytes}
 use Rattle.secs.specs.Decode.{Reading, reading, lengthAt, judged, contentAt, formatAt, itemAt, seen}
-use Rattle.secs.specs.Laws.{Holds, Writes-back, Shortest-back}
+use Rattle.secs.specs.Laws.{Holds, Shortest-back}
 use Rattle.secs.proofs.Encoding.{Sized, one, two, three, sized, length-head, length-item}
 
 found-in : (code : ℕ) (fs : List Format) (f : Format) → withCode code fs ≡ Some f → codeOf f ≡ code
@@ -133,7 +133,8 @@ module _ (frame : List ℕ) (at : ℕ) (f : Format) (k n : ℕ) (bytes : (i : �
 abbrev Back : List ℕ → ℕ → Reading → Type 0
 Back frame at r = (Holds frame at (itemBytes (r .format) (r .size) (r .content))) × (r .next ≡ at + length (itemBytes (r .format) (r .size) (r .content)))
 
-pub writes-back : Writes-back
+-- an item that is read with the fewest length bytes is in the frame as it would be written, and ends at the next place
+writes-back : (frame : List ℕ) (at : ℕ) (r : Reading) → ((i : ℕ) → getD frame i 0 < 256) → itemAt frame at ≡ Ok r → getD frame at 0 % 4 ≡ lengthSize (r .size) → Back frame at r
 writes-back frame at r bytes h short =
     let b = getD frame at 0 in
     let k = b % 4 in

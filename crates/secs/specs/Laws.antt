@@ -24,23 +24,6 @@ use Rattle.secs.specs.Decode.{Reading, reading, itemAt}
 abbrev pub Holds : List ℕ → ℕ → List ℕ → Type 0
 Holds frame at bs = between at (at + length bs) frame ≡ bs
 
--- what an item can be: a list has no content of its own; any other item's length is that of its content, which has no fault
-pub record Sound (f : Format) (n : ℕ) (content : List ℕ) : Type 0 where
-  pub small : n ≤ longest
-  pub empty : isList f ≡ true → content ≡ []
-  pub long : isList f ≡ false → length content ≡ n
-  pub whole : isList f ≡ false → contentFault f content ≡ None
-
--- an item that is in a frame at a place is read there, with its place
-abbrev pub Reads-back : Type 0
-Reads-back = (frame : List ℕ) (at : ℕ) (f : Format) (n : ℕ) (content : List ℕ) → Sound f n content → Holds frame at (itemBytes f n content)
-    → itemAt frame at ≡ Ok (reading f (at + 1 + lengthSize n) n content (at + length (itemBytes f n content)))
-
--- an item that is read with the fewest length bytes is in the frame as it would be written, and ends at the next place
-abbrev pub Writes-back : Type 0
-Writes-back = (frame : List ℕ) (at : ℕ) (r : Reading) → ((i : ℕ) → getD frame i 0 < 256) → itemAt frame at ≡ Ok r → getD frame at 0 % 4 ≡ lengthSize (r .size)
-    → (Holds frame at (itemBytes (r .format) (r .size) (r .content))) × (r .next ≡ at + length (itemBytes (r .format) (r .size) (r .content)))
-
 -- a list that was written into a buffer at a place is read there: its items begin at the place that the writer answered
 abbrev pub List-back : List ℕ → ℕ → ℕ → Option ℕ → Type 0
 List-back out at n answer = found answer (λ next. itemAt out at ≡ Ok (reading format.List next n [] next))
