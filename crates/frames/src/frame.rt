@@ -1,10 +1,11 @@
 // Headers and frames as bytes.
 ghost use mathlib.Core.Path.{_≡_};
 ghost use mathlib.Core.Bool.{cond};
-ghost use Prim.Native.Nat.{ℕ, _+_};
+ghost use Prim.Native.Nat.{ℕ, _+_, _<_};
 ghost use lib.ListN.{length};
-ghost use Rattle.frames.specs.Frames.{headerBytes, frameOf, frameAt, parted, frameFits, frameEnd, frameWritten};
+ghost use Rattle.frames.specs.Frames.{headerBytes, headerOf, frameOf, frameAt, parted, frameFits, frameEnd, frameWritten};
 use crate::header::Header;
+ghost use Rattle.frames.specs.Laws.{Frame-whole, Written-back, Parted-back};
 use octets::copy_at;
 
 // A frame taken apart. The body is a part of the frame.
@@ -17,7 +18,8 @@ pub struct Frame<'a> {
 impl Header {
     // The ten bytes. Of the stream only its seven low bits are sent.
     pub fn bytes(self) -> [u8; 10]
-        ensures { λ r. ⌜ r ≡ headerBytes self ⌝ }
+        ensures value { λ r. ⌜ r ≡ headerBytes self ⌝ }
+        ensures back { λ r. ⌜ (self .stream < 128 → headerOf r ≡ self) ⌝ }
     {
         let [s0, s1] = self.session.to_be_bytes();
         let [t0, t1, t2, t3] = self.transaction.to_be_bytes();
@@ -39,7 +41,8 @@ impl Header {
 
 // Takes header and body apart; none below ten bytes.
 pub fn split_frame<'a>(frame: &'a [u8]) -> Option<Frame<'a>>
-    ensures { λ r. ⌜ parted r ≡ frameAt (now (frame .entry)) ⌝ }
+    ensures parts { λ r. ⌜ parted r ≡ frameAt (now (frame .entry)) ⌝ }
+    ensures back { λ r. ⌜ Parted-back (now (frame .entry)) r ⌝ }
 {
     let [
         s0,
@@ -74,6 +77,8 @@ pub fn split_frame<'a>(frame: &'a [u8]) -> Option<Frame<'a>>
 pub fn write_frame(out: &mut [u8], at: usize, header: Header, body: &[u8]) -> Option<usize>
     ensures place { λ r. ⌜ r ≡ frameEnd (now (out .entry)) at (now (body .entry)) ⌝ }
     ensures after { λ _. ⌜ now (out .exit) ≡ frameWritten (now (out .entry)) at header (now (body .entry)) ⌝ }
+    ensures whole { λ _. ⌜ Frame-whole ⌝ }
+    ensures back { λ r. ⌜ Written-back (now (out .exit)) at header (now (body .entry)) r ⌝ }
 {
     if at > out.len()
         || out.len() - at < 14

@@ -1,6 +1,6 @@
 -- What is written is read back.
 use mathlib.Core.Path.{_≡_, refl, ap, sym, subst, _∙_}
-use mathlib.Core.Bool.{Bool, true, false, cond}
+use mathlib.Core.Bool.{Bool, true, false, not, cond}
 use mathlib.Core.Logic.{_⊎_, inl, inr}
 use mathlib.Core.List.{List, [], _∷_, _++_}
 use Prim.Native.Nat.{ℕ, suc, _+_, _-_, _*_, _/_, _%_, _≤_, _<_}
@@ -9,23 +9,34 @@ use native.Mathlib.Omega.{arith}
 use lib.Dec.{eqb, ltb, leb}
 use lib.ListN.{length, getD, take, drop}
 use Rattle.std.specs.Holes.{between}
+use Rattle.std.specs.Options.{isSome}
 use Rattle.std.specs.declared.option.Option.{Option}
 use Rattle.std.specs.declared.option.Option.the-variants.{Some, None}
 use Rattle.std.specs.declared.result.Result.{Result}
 use Rattle.std.specs.declared.result.Result.the-variants.{Ok, Err}
 use Rattle.std.proofs.shelf.Lists.{append-nil, append-assoc, length-append, length-drop, getD-drop, drop-drop, take-at, take-append-drop}
-use Rattle.std.proofs.shelf.Tests.{cond-true, cond-false, lt-ltb, le-ltb, lt-leb, eq-eqb, ne-eqb, cases-bool}
+use Rattle.std.proofs.shelf.Tests.{cond-true, cond-false, lt-ltb, le-ltb, lt-leb, eq-eqb, ne-eqb, cases-bool, and-parts, leb-true, not-true, both-ways, true≢false}
+use Rattle.octets.specs.Places.{placed}
+use Rattle.octets.proofs.Placing.{drop-placed}
 use Rattle.secs.specs.declared.format.Format.{Format}
+use Rattle.secs.specs.declared.item.Fault.{Fault}
 use Rattle.secs.specs.declared.format.Format.the-variants as format
 use Rattle.secs.specs.declared.item.Fault.the-variants.{NoLength}
 use Rattle.secs.specs.Formats.{codeOf, formatOf, Code-found}
 use Rattle.secs.specs.Elements.{isList, contentFault}
-use Rattle.secs.specs.Encode.{lengthSize, lengthBytes, headBytes, itemBytes}
+use Rattle.secs.specs.Encode.{longest, lengthSize, lengthBytes, headBytes, itemBytes, placeAfter, fitsAt, listBytes, valueBytes, writable, itemFits, itemEnd, itemWritten, listEnd, listWritten}
 use Rattle.secs.specs.Decode.{Reading, reading, lengthAt, judged, contentAt, formatAt, itemAt}
-use Rattle.secs.specs.Laws.{Holds, Sound, Reads-back}
+use Rattle.secs.specs.Laws.{Holds, List-back, Item-back}
 use Rattle.secs.proofs.Encoding.{Sized, one, two, three, sized, length-item}
 
-pub code-found : Code-found
+-- what an item can be: a list has no content of its own; any other item's length is that of its content, which has no fault
+record Sound (f : Format) (n : ℕ) (content : List ℕ) : Type 0 where
+  small : n ≤ longest
+  empty : isList f ≡ true → content ≡ []
+  long : isList f ≡ false → length content ≡ n
+  whole : isList f ≡ false → contentFault f content ≡ None
+
+code-found : Code-found
 code-found format.List = refl
 code-found format.Binary = refl
 code-found format.Ascii = refl
@@ -105,14 +116,70 @@ module _ (frame : List ℕ) (at : ℕ) (f : Format) (n : ℕ) (content rest : Li
       ∙ ap (λ k. Ok (reading f (at + 1 + k) n content (at + 1 + k + length content))) (sym z)
 
 -- a frame that has bytes at a place goes on with them
-pub holds-drop : (frame : List ℕ) (at : ℕ) (bs : List ℕ) → Holds frame at bs → drop at frame ≡ bs ++ drop (length bs) (drop at frame)
+holds-drop : (frame : List ℕ) (at : ℕ) (bs : List ℕ) → Holds frame at bs → drop at frame ≡ bs ++ drop (length bs) (drop at frame)
 holds-drop frame at bs h =
     let m : at + length bs - at ≡ length bs = omega arith in
     sym (take-append-drop (length bs) (drop at frame)) ∙ ap (λ x. x ++ drop (length bs) (drop at frame)) (ap (λ x. take x (drop at frame)) (sym m) ∙ h)
 
-pub reads-back : Reads-back
+-- an item that is in a frame at a place is read there, with its place
+reads-back : (frame : List ℕ) (at : ℕ) (f : Format) (n : ℕ) (content : List ℕ) → Sound f n content → Holds frame at (itemBytes f n content)
+    → itemAt frame at ≡ Ok (reading f (at + 1 + lengthSize n) n content (at + length (itemBytes f n content)))
 reads-back frame at f n content s h =
     let l = length-item f n content in
     let p : at + 1 + lengthSize n + length content ≡ at + length (itemBytes f n content) = omega arith in
     read-of frame at f n content (drop (length (itemBytes f n content)) (drop at frame)) s (holds-drop frame at (itemBytes f n content) h) (sized n)
     ∙ ap (λ x. Ok (reading f (at + 1 + lengthSize n) n content x)) p
+
+-- what was written into a buffer is there
+holds-placed : (xs : List ℕ) (at : ℕ) (bs : List ℕ) → at + length bs ≤ length xs → Holds (placed xs at bs) at bs
+holds-placed xs at bs h =
+    let m : at + length bs - at ≡ length bs = omega arith in
+    ap (λ n. take n (drop at (placed xs at bs))) m ∙ (ap (take (length bs)) (drop-placed xs at bs (omega arith)) ∙ take-at bs _ (length bs) refl)
+
+-- an item that was written where it fits is read back
+item-back : (xs : List ℕ) (at : ℕ) (f : Format) (n : ℕ) (content : List ℕ) → Sound f n content → at + length (itemBytes f n content) ≤ length xs
+    → itemAt (placed xs at (itemBytes f n content)) at ≡ Ok (reading f (at + length (itemBytes f n content) - length content) n content (at + length (itemBytes f n content)))
+item-back xs at f n content s h =
+    let bs = itemBytes f n content in
+    let l = length-item f n content in
+    let b : at + 1 + lengthSize n ≡ at + length bs - length content = omega arith in
+    reads-back (placed xs at bs) at f n content s (holds-placed xs at bs h) ∙ ap (λ x. Ok (reading f x n content (at + length bs))) b
+
+pub list-back : (xs : List ℕ) (at n : ℕ) → List-back (listWritten xs at n) at n (listEnd xs at n)
+list-back xs at n =
+    elim (cases-bool (fitsAt xs at n (listBytes n))) [
+      | inl e ↦
+          let p = and-parts (leb n longest) (leb (at + length (listBytes n)) (length xs)) e in
+          let small = leb-true n longest (p .0) in
+          let room = leb-true (at + length (listBytes n)) (length xs) (p .1) in
+          let none : at + length (listBytes n) - 0 ≡ at + length (listBytes n) = omega arith in
+          let s : Sound format.List n [] = record { small = small; empty = λ _. refl; long = λ x. absurd (true≢false x); whole = λ x. absurd (true≢false x) } in
+          subst (λ b. List-back (cond b (placed xs at (listBytes n)) xs) at n (placeAfter b at (listBytes n))) (sym e)
+          (item-back xs at format.List n [] s room ∙ ap (λ x. Ok (reading format.List x n [] (at + length (listBytes n)))) none)
+      | inr e ↦ subst (λ b. List-back (cond b (placed xs at (listBytes n)) xs) at n (placeAfter b at (listBytes n))) (sym e) tt
+    ]
+
+none-of : (o : Option Fault) → isSome o ≡ false → o ≡ None
+none-of None h = refl
+none-of (Some x) h = absurd (true≢false h)
+
+pub value-back : (xs : List ℕ) (at : ℕ) (f : Format) (content : List ℕ) → Item-back (itemWritten xs at f content) at f content (itemEnd xs at f content)
+value-back xs at f content =
+    let bs = valueBytes f content in
+    elim (cases-bool (itemFits xs at f content)) [
+      | inl e ↦
+          let p = and-parts (writable f content) (fitsAt xs at (length content) bs) e in
+          let q = and-parts (leb (length content) longest) (leb (at + length bs) (length xs)) (p .1) in
+          let w = and-parts (not (isList f)) (not (isSome (contentFault f content))) (p .0) in
+          let other = not-true (isList f) (w .0) in
+          let good = none-of (contentFault f content) (not-true (isSome (contentFault f content)) (w .1)) in
+          let s : Sound f (length content) content = record {
+            small = leb-true (length content) longest (q .0);
+            empty = λ x. absurd (both-ways (isList f) other x);
+            long = λ _. refl;
+            whole = λ _. good;
+          } in
+          subst (λ b. Item-back (cond b (placed xs at bs) xs) at f content (placeAfter b at bs)) (sym e)
+          (item-back xs at f (length content) content s (leb-true (at + length bs) (length xs) (q .1)))
+      | inr e ↦ subst (λ b. Item-back (cond b (placed xs at bs) xs) at f content (placeAfter b at bs)) (sym e) tt
+    ]

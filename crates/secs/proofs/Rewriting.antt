@@ -9,6 +9,7 @@ use native.Mathlib.Omega.{arith}
 use lib.Dec.{eqb, ltb, leb}
 use lib.ListN.{length, getD, take, drop}
 use lib.Seq.{take-add}
+use denote.Ref.{now}
 use Rattle.std.specs.Holes.{between}
 use Rattle.std.specs.declared.option.Option.{Option}
 use Rattle.std.specs.declared.option.Option.the-variants.{Some, None}
@@ -17,13 +18,14 @@ use Rattle.std.specs.declared.result.Result.the-variants.{Ok, Err}
 use Rattle.std.proofs.shelf.Lists.{append-nil, length-append, length-drop, length-take, getD-drop, drop-drop}
 use Rattle.std.proofs.shelf.Tests.{cond-true, cond-false, cases-bool, eqb-true, leb-false, ltb-false}
 use Rattle.secs.specs.declared.format.Format.{Format}
+use Rattle.secs.specs.declared.item.Item.{Item}
 use Rattle.secs.specs.declared.item.Fault.{Fault}
 use Rattle.secs.specs.declared.item.Fault.the-variants.{NoLength, PastEnd}
 use Rattle.secs.specs.Formats.{codeOf, withCode, everyFormat, formatOf, Found-by-code}
 use Rattle.secs.specs.Elements.{isList, contentFault}
 use Rattle.secs.specs.Encode.{lengthSize, lengthBytes, headBytes, itemBytes}
-use Rattle.secs.specs.Decode.{Reading, reading, lengthAt, judged, contentAt, formatAt, itemAt}
-use Rattle.secs.specs.Laws.{Holds, Writes-back}
+use Rattle.secs.specs.Decode.{Reading, reading, lengthAt, judged, contentAt, formatAt, itemAt, seen}
+use Rattle.secs.specs.Laws.{Holds, Shortest-back}
 use Rattle.secs.proofs.Encoding.{Sized, one, two, three, sized, length-head, length-item}
 
 found-in : (code : ℕ) (fs : List Format) (f : Format) → withCode code fs ≡ Some f → codeOf f ≡ code
@@ -131,7 +133,8 @@ module _ (frame : List ℕ) (at : ℕ) (f : Format) (k n : ℕ) (bytes : (i : �
 abbrev Back : List ℕ → ℕ → Reading → Type 0
 Back frame at r = (Holds frame at (itemBytes (r .format) (r .size) (r .content))) × (r .next ≡ at + length (itemBytes (r .format) (r .size) (r .content)))
 
-pub writes-back : Writes-back
+-- an item that is read with the fewest length bytes is in the frame as it would be written, and ends at the next place
+writes-back : (frame : List ℕ) (at : ℕ) (r : Reading) → ((i : ℕ) → getD frame i 0 < 256) → itemAt frame at ≡ Ok r → getD frame at 0 % 4 ≡ lengthSize (r .size) → Back frame at r
 writes-back frame at r bytes h short =
     let b = getD frame at 0 in
     let k = b % 4 in
@@ -164,3 +167,8 @@ writes-back frame at r bytes h short =
           let L = length-item f n content in
           subst (Back frame at) same (item-of frame at f k n bytes first s within refl n content cut long, omega arith)
     ]
+
+-- so it is of what the reader answered
+pub shortest-back : (frame : List ℕ) (at : ℕ) (r : Result Item Fault) → ((i : ℕ) → getD frame i 0 < 256) → seen r ≡ itemAt frame at → Shortest-back frame at r
+shortest-back frame at (Ok i) bytes e = λ short. writes-back frame at (reading (i .format) (i .begin) (i .length) (now (i .content)) (i .next)) bytes (sym e) short .0
+shortest-back frame at (Err fault) bytes e = tt

@@ -2,6 +2,5 @@
 pub mod elements;
 pub mod format;
 pub mod item;
-pub mod laws;
 pub mod read;
 pub mod write;

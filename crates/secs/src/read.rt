@@ -4,6 +4,7 @@ ghost use Prim.Native.Nat.{ℕ, _+_, _≤_};
 ghost use lib.ListN.{length};
 ghost use Rattle.std.specs.Vec.{made};
 ghost use Rattle.secs.specs.Decode.{lengthAt, contentAt, itemAt, seen, Within};
+ghost use Rattle.secs.specs.Laws.{Shortest-back};
 use crate::elements::content_fault;
 use crate::format::Format;
 use crate::item::Fault;
@@ -61,6 +62,7 @@ fn read_content<'a>(
 pub fn read_item<'a>(frame: &'a [u8], at: usize) -> Result<Item<'a>, Fault>
     ensures item { λ r. ⌜ seen r ≡ itemAt (now (frame .entry)) at ⌝ }
     ensures within { λ r. ⌜ made r (λ i. Within i (now (frame .entry))) ⌝ }
+    ensures shortest { λ r. ⌜ Shortest-back (now (frame .entry)) at r ⌝ }
 {
     if at >= frame.len() {
         return Err(Fault::PastEnd);

@@ -10,6 +10,7 @@ ghost use Rattle.octets.specs.Places.{placed};
 ghost use Rattle.secs.specs.Encode.{longest, lengthSize, headBytes, itemBytes, fitsAt, placeAfter, listEnd, listWritten, itemEnd, itemWritten};
 use crate::elements::content_fault;
 use crate::format::Format;
+ghost use Rattle.secs.specs.Laws.{List-back, Item-back};
 use octets::copy_at;
 
 // The greatest length of an item: three length bytes.
@@ -77,6 +78,7 @@ fn write_parts(
 pub fn write_list(out: &mut [u8], at: usize, count: usize) -> Option<usize>
     ensures place { λ r. ⌜ r ≡ listEnd (now (out .entry)) at count ⌝ }
     ensures after { λ _. ⌜ now (out .exit) ≡ listWritten (now (out .entry)) at count ⌝ }
+    ensures back { λ r. ⌜ List-back (now (out .exit)) at count r ⌝ }
 {
     write_parts(out, at, Format::List, count, &[])
 }
@@ -86,6 +88,7 @@ pub fn write_list(out: &mut [u8], at: usize, count: usize) -> Option<usize>
 pub fn write_item(out: &mut [u8], at: usize, format: Format, content: &[u8]) -> Option<usize>
     ensures place { λ r. ⌜ r ≡ itemEnd (now (out .entry)) at format (now (content .entry)) ⌝ }
     ensures after { λ _. ⌜ now (out .exit) ≡ itemWritten (now (out .entry)) at format (now (content .entry)) ⌝ }
+    ensures back { λ r. ⌜ Item-back (now (out .exit)) at format (now (content .entry)) r ⌝ }
 {
     if let Format::List = format {
         return None;

@@ -7,6 +7,6 @@ pub returns : need.returns
 returns c =
     let xs = c .args .out .now in
     record {
-      place = c .write-item .ensures .place ∙ ap (itemEnd xs 0 Binary) (c .bytes .ensures);
-      after = c .write-item .ensures .after ∙ ap (itemWritten xs 0 Binary) (c .bytes .ensures);
+      place = c .write-item .ensures .place ∙ ap (itemEnd xs 0 Binary) (c .bytes .ensures .value);
+      after = c .write-item .ensures .after ∙ ap (itemWritten xs 0 Binary) (c .bytes .ensures .value);
     }
