@@ -1,0 +1,4 @@
+pub mod Alarms
+pub mod Calls
+pub mod Starts
+pub mod Turns
