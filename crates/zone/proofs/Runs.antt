@@ -9,7 +9,6 @@ use Rattle.zone.specs.declared.rule.Band.{Band}
 use Rattle.zone.specs.declared.rule.Zone.{Zone}
 use Rattle.zone.specs.declared.rule.Zone.the-variants.{Above, Below}
 use Rattle.zone.specs.Zones.{nextZone, bandAfter}
-use Rattle.zone.specs.Laws.{Under, AtMost}
 use Rattle.zone.specs.Runs.{bandAlong, AllBetween, Last-decides}
 use Rattle.zone.proofs.Laws.{Transitive, kept, not-both, rest, rise, fall}
 
