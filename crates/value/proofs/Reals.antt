@@ -1,11 +1,9 @@
 -- Facts about real values.
-use mathlib.Core.Path.{_≡_, refl, sym, ap, _∙_}
+use mathlib.Core.Path.{_≡_, refl}
 use mathlib.Core.Bool.{Bool, true, false, Bool-set}
 use lib.Ieee.{Float, isNan}
-use Rattle.std.specs.declared.option.Option.{Option}
 use Rattle.std.specs.declared.option.Option.the-variants.{Some, None}
 use Rattle.std.proofs.shelf.Tests.{both-ways}
-use Rattle.value.specs.declared.real.Real.{Real}
 use Rattle.value.specs.Reals.{realWhere, realOf}
 
 -- a float that is no NaN makes one real value, whatever shows that it is none

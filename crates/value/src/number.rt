@@ -1,9 +1,14 @@
 // How a real value is made, and what it is as a number of 32 bits.
 ghost use mathlib.Core.Path.{_≡_};
-ghost use lib.Ieee.{le, toBits, binary32};
+ghost use lib.Ieee.{toBits, binary32};
 ghost use Rattle.std.specs.declared.option.Option.the-variants.{Some};
 ghost use Rattle.value.specs.Reals.{realOf, realOfBits};
 use crate::real::Real;
+
+// The sign bit, and the bits of infinity. Without its sign bit a NaN is above infinity.
+const SIGN: u32 = 0x8000_0000;
+
+const INFINITY: u32 = 0x7f80_0000;
 
 impl Real {
     // The real value of a float, or none where that is not a number.
@@ -11,21 +16,19 @@ impl Real {
         ensures { λ r. ⌜ r ≡ realOf value ⌝ }
     {
         if value.is_nan() {
-            None
-        } else {
-            Some(Real { value })
+            return None;
         }
+        Some(Real { value })
     }
 
     // The real value that 32 bits are, or none where they are a NaN.
     pub(crate) fn from_bits(bits: u32) -> Option<Real>
         ensures { λ r. ⌜ r ≡ realOfBits bits ⌝ }
     {
-        if bits % 0x8000_0000 <= 0x7f80_0000 {
-            Real::new(f32::from_bits(bits))
-        } else {
-            None
+        if bits % SIGN > INFINITY {
+            return None;
         }
+        Real::new(f32::from_bits(bits))
     }
 
     pub(crate) fn to_bits(self) -> u32

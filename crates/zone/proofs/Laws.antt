@@ -5,7 +5,7 @@ use mathlib.Core.List.{List, [], _∷_}
 use Rattle.std.specs.shelf.Lists.{All}
 use Rattle.std.specs.declared.option.Option.{Option}
 use Rattle.std.specs.declared.option.Option.the-variants.{Some, None}
-use Rattle.std.proofs.shelf.Tests.{both-ways, cases-bool}
+use Rattle.std.proofs.shelf.Tests.{both-ways}
 use Rattle.zone.specs.declared.rule.Band.{Band}
 use Rattle.zone.specs.declared.rule.Zone.{Zone}
 use Rattle.zone.specs.declared.rule.Zone.the-variants.{NoZone, Above, Below}

@@ -1,14 +1,14 @@
 -- Runs of samples to one band.
-use mathlib.Core.Path.{_≡_, refl, sym, ap, subst, _∙_}
+use Prim.Native.Nat.{ℕ, _+_, _<_, _≤_}
+use mathlib.Core.Path.{_≡_, refl, sym, ap, _∙_}
 use mathlib.Core.Bool.{Bool, true, false}
-use mathlib.Core.Logic.{⊎-elim}
+use lib.ListN.{length, drop, getD}
 use mathlib.Core.List.{List, [], _∷_, _++_}
-use Rattle.std.proofs.shelf.Tests.{cases-bool}
+use Rattle.std.proofs.shelf.Lists.{at-drop-more, at-drop-all}
 use Rattle.zone.specs.declared.rule.Band.{Band}
 use Rattle.zone.specs.declared.rule.Zone.{Zone}
 use Rattle.zone.specs.declared.rule.Zone.the-variants.{Above, Below}
 use Rattle.zone.specs.Zones.{nextZone, bandAfter}
-use Rattle.zone.specs.Laws.{Under, AtMost}
 use Rattle.zone.specs.Runs.{bandAlong, AllBetween, Last-decides}
 use Rattle.zone.proofs.Laws.{Transitive, kept, not-both, rest, rise, fall}
 
@@ -58,3 +58,14 @@ module _ {K : Type 0} (atMost : K → K → Bool) (transitive : Transitive atMos
             let h : atMost (band .upper) value ≡ false = not-so _ (λ h. not-both atMost transitive band value wide h l) in
             decides band before value after Below (λ z. (λ i. nextZone z (h i) (l i)) ∙ fall z) between;
       }
+
+  -- what is left of a run gives the same once a value more is taken
+  pub along-more : (values : List K) (i : ℕ) (value : K) (band next end : Band K) → i < length values → value ≡ getD values i value → next ≡ bandAfter atMost value band → bandAlong atMost (drop i values) band ≡ end → bandAlong atMost (drop (i + 1) values) next ≡ end
+  along-more values i value band next end lt is step inv =
+      let more : bandAlong atMost (drop i values) band ≡ bandAlong atMost (drop (i + 1) values) (bandAfter atMost (getD values i value) band) =
+      at-drop-more (λ vs. bandAlong atMost vs band) values i value lt in
+      ap (bandAlong atMost (drop (i + 1) values)) (step ∙ ap (λ v. bandAfter atMost v band) is) ∙ (sym more ∙ inv)
+
+  -- a run of which nothing is left
+  pub along-all : (values : List K) (i : ℕ) (band end : Band K) → length values ≤ i → bandAlong atMost (drop i values) band ≡ end → band ≡ end
+  along-all values i band end le inv = sym (at-drop-all (λ vs. bandAlong atMost vs band) values i le) ∙ inv

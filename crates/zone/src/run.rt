@@ -1,18 +1,17 @@
-// What a whole run of samples does to a band.
+// A whole run of samples to one band.
 ghost use mathlib.Core.Path.{_≡_};
-ghost use Rattle.zone.specs.Runs.{Last-decides, Edge-zones};
+ghost use Rattle.zone.specs.Runs.{bandAlong, Last-decides, Edge-zones};
+use crate::rule::Band;
 use value::kind::ValueKind;
 
-// For every kind of value, the last sample that is not strictly between the bounds decides the zone.
-pub fn last_decides_stands<K: ValueKind>() -> u8
-    ensures { λ _. ⌜ Last-decides (K·ValueKind .atMost) ⌝ }
+// Gives a band the samples of a run, one after the other. For every kind of value the last one that is not strictly between
+// the bounds decides the zone.
+pub fn sample_run<K: ValueKind>(band: &mut Band<K>, values: &[K])
+    ensures after { λ _. ⌜ now (band .exit) ≡ bandAlong (K·ValueKind .atMost) (now (values .entry)) (now (band .entry)) ⌝ }
+    ensures decides { λ _. ⌜ Last-decides (K·ValueKind .atMost) ⌝ }
+    ensures edges { λ _. ⌜ Edge-zones ⌝ }
 {
-    0
-}
-
-// The zones of two short runs at the edges, from the definitions.
-pub fn edge_zones_stand() -> u8
-    ensures { λ _. ⌜ Edge-zones ⌝ }
-{
-    0
+    for value in values {
+        band.sample(value);
+    }
 }

@@ -1,8 +1,5 @@
-use Prim.Native.Nat.{_<_, _≤_}
-use mathlib.Core.Path.{_≡_, sym, subst}
-use lib.ListN.{length}
+use mathlib.Core.Path.{sym, subst}
 use native.Mathlib.Omega.{arith}
-use borrow.Author.Needs.{needs}
 use Rattle.zone.proofs.Bands.{pass-more, pass-all}
 use Rattle.zone.specs.Laws.{AllSettle}
 use Rattle.zone.proofs.Laws.{all-settle}

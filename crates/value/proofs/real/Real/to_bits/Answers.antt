@@ -1,4 +1,4 @@
-use mathlib.Core.Path.{_≡_, refl, ap, _∙_}
+use mathlib.Core.Path.{refl, ap, _∙_}
 use lib.Dec.{T}
 use lib.Ieee.{binary32, fits}
 use lib.Ieee.Bits.{ofBits-toBits}
