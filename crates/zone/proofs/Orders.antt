@@ -10,8 +10,8 @@ use Rattle.std.specs.declared.result.Result.{Result}
 use Rattle.std.specs.declared.result.Result.the-variants.{Ok, Err}
 use Rattle.std.proofs.shelf.Elements.{all-set, all-map, all-weaker}
 use Rattle.std.proofs.shelf.Tests.{cond-both}
-use Rattle.value.specs.declared.real.Real as real
-use Rattle.value.specs.Reals.{realOf, realAtMost}
+use Rattle.kinds.specs.declared.real.Real as real
+use Rattle.kinds.specs.Reals.{realOf, realAtMost}
 use Rattle.zone.specs.declared.rule.Band.{Band}
 use Rattle.zone.specs.declared.variable.Bounds.{Bounds}
 use Rattle.zone.specs.declared.variable.Bounds.the-variants as bounds

@@ -10,7 +10,7 @@ use Rattle.std.specs.declared.option.Option.{Option}
 use Rattle.std.specs.declared.option.Option.the-variants.{Some, None}
 use Rattle.std.specs.declared.result.Result.{Result}
 use Rattle.std.specs.declared.result.Result.the-variants.{Ok, Err}
-use Rattle.value.specs.declared.real.Real as real
+use Rattle.kinds.specs.declared.real.Real as real
 use Rattle.zone.specs.declared.rule.Band.{Band}
 use Rattle.zone.specs.declared.rule.Zone.{Zone}
 use Rattle.zone.specs.declared.places.BandAnswer.{BandAnswer}
@@ -24,7 +24,7 @@ use Rattle.zone.specs.declared.variable.Variable.{Variable}
 use Rattle.zone.specs.declared.variable.Variable.the-variants as variable
 use Rattle.zone.specs.declared.variable.SampleFault.{SampleFault}
 use Rattle.zone.specs.declared.variable.SampleFault.the-variants.{OtherKind, NotANumber}
-use Rattle.value.specs.Reals.{realOf, realAtMost}
+use Rattle.kinds.specs.Reals.{realOf, realAtMost}
 use Rattle.zone.specs.Zones.{bandMade, bandsAfter, anyMoves}
 use Rattle.zone.specs.Laws.{Ordered}
 use Rattle.zone.specs.Places.{addAnswer, addAfter, zoneAt}

@@ -2,7 +2,7 @@
 ghost use mathlib.Core.Path.{_≡_};
 ghost use Rattle.zone.specs.Zones.{bandMade, zoneAfter, bandAfter, bandMoves, placeAfter, placeMoves, bandsAfter, anyMoves};
 ghost use Rattle.zone.specs.Laws.{AllSettle, Rises, Falls, Rests, Settles, Alternates};
-use value::kind::ValueKind;
+use kinds::kind::ValueKind;
 
 // Where a variable's value last was against a band.
 #[derive(Clone, Copy, PartialEq, Eq, Debug)]

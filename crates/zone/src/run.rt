@@ -2,7 +2,7 @@
 ghost use mathlib.Core.Path.{_≡_};
 ghost use Rattle.zone.specs.Runs.{bandAlong, Last-decides, Edge-zones};
 use crate::rule::Band;
-use value::kind::ValueKind;
+use kinds::kind::ValueKind;
 
 // Gives a band the samples of a run, one after the other. For every kind of value the last one that is not strictly between
 // the bounds decides the zone.

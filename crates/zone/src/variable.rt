@@ -7,10 +7,10 @@ use crate::rule;
 use crate::rule::Band;
 use crate::rule::Bands;
 use crate::rule::Zone;
-use value::kind::RealKind;
-use value::kind::ValueKind;
-use value::kind::WholeKind;
-use value::real::Real;
+use kinds::kind::RealKind;
+use kinds::kind::ValueKind;
+use kinds::kind::WholeKind;
+use kinds::real::Real;
 
 #[derive(Clone, Copy, PartialEq, Eq, Debug)]
 pub enum Kind {

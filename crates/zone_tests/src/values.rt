@@ -1,9 +1,9 @@
 // Values as the content of their items.
 use std::test::*;
-use value::kind::RealKind;
-use value::kind::ValueKind;
-use value::kind::WholeKind;
-use value::real::Real;
+use kinds::kind::RealKind;
+use kinds::kind::ValueKind;
+use kinds::kind::WholeKind;
+use kinds::real::Real;
 
 // The formats I4 and F4.
 #[test]

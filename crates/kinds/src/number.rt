@@ -2,7 +2,7 @@
 ghost use mathlib.Core.Path.{_≡_};
 ghost use lib.Ieee.{toBits, binary32};
 ghost use Rattle.std.specs.declared.option.Option.the-variants.{Some};
-ghost use Rattle.value.specs.Reals.{realOf, realOfBits};
+ghost use Rattle.kinds.specs.Reals.{realOf, realOfBits};
 use crate::real::Real;
 
 // The sign bit, and the bits of infinity. Without its sign bit a NaN is above infinity.

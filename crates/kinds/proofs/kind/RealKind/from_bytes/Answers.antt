@@ -1,8 +1,8 @@
 use mathlib.Core.Path.{_≡_, ap, _∙_}
 use borrow.Author.Needs.{needs}
 use Rattle.octets.specs.Big.{num4}
-use Rattle.value.specs.Reals.{realOfBits}
-use Rattle.value.proofs.kind.RealKind.from_bytes.Needs as need
+use Rattle.kinds.specs.Reals.{realOfBits}
+use Rattle.kinds.proofs.kind.RealKind.from_bytes.Needs as need
 
 pub returns : need.returns
 returns c =

@@ -3,9 +3,9 @@ use lib.Dec.{T}
 use lib.Ieee.{binary32, fits}
 use lib.Ieee.Bits.{ofBits-toBits}
 use borrow.Author.Needs.{needs}
-use Rattle.value.specs.Reals.{realOf}
-use Rattle.value.proofs.Reals.{real-of}
-use Rattle.value.proofs.real.Real.to_bits.Needs as need
+use Rattle.kinds.specs.Reals.{realOf}
+use Rattle.kinds.proofs.Reals.{real-of}
+use Rattle.kinds.proofs.real.Real.to_bits.Needs as need
 
 pub returns : need.returns
 returns c =

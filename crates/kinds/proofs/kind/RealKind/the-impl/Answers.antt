@@ -1,6 +1,6 @@
 use lib.Ieee.Bits.{is-true}
 use Rattle.std.proofs.num.Compares.{passes, fails, le-of-lt, lt-of-not-le, le-trans}
-use Rattle.value.proofs.kind.RealKind.the-impl.Needs as need
+use Rattle.kinds.proofs.kind.RealKind.the-impl.Needs as need
 
 pub total-law : need.total-law
 total-law x y h =

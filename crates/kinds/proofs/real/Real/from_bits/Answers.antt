@@ -4,8 +4,8 @@ use lib.Ieee.Bits.{nanBits-is, nanBits-above}
 use native.Mathlib.Omega.{arith}
 use Rattle.std.proofs.shelf.Tests.{le-ltb, lt-ltb}
 use Rattle.std.proofs.num.Compares.{fails}
-use Rattle.value.proofs.Reals.{none-of}
-use Rattle.value.proofs.real.Real.from_bits.Needs as need
+use Rattle.kinds.proofs.Reals.{none-of}
+use Rattle.kinds.proofs.real.Real.from_bits.Needs as need
 
 pub float-from-bits-bits : need.float-from-bits-bits
 float-from-bits-bits c = fails _ (nanBits-above binary32 (c .args .bits) ∙ le-ltb _ _ (omega arith))

@@ -5,7 +5,7 @@ use mathlib.Core.Bool.{Bool, true, false}
 use lib.Ieee.{Float, isNan, le, ofBits, toBits, binary32}
 use Rattle.std.specs.declared.option.Option.{Option}
 use Rattle.std.specs.declared.option.Option.the-variants.{Some, None}
-use Rattle.value.specs.declared.real.Real.{Real}
+use Rattle.kinds.specs.declared.real.Real.{Real}
 
 -- the real value of a float of which it is known whether it is a NaN
 abbrev pub realWhere : (x : Float) (b : Bool) → isNan x ≡ b → Option Real

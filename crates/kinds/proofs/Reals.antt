@@ -4,7 +4,7 @@ use mathlib.Core.Bool.{Bool, true, false, Bool-set}
 use lib.Ieee.{Float, isNan}
 use Rattle.std.specs.declared.option.Option.the-variants.{Some, None}
 use Rattle.std.proofs.shelf.Tests.{both-ways}
-use Rattle.value.specs.Reals.{realWhere, realOf}
+use Rattle.kinds.specs.Reals.{realWhere, realOf}
 
 -- a float that is no NaN makes one real value, whatever shows that it is none
 pub real-where : (x : Float) (b : Bool) (e : isNan x ≡ b) (h : isNan x ≡ false) → realWhere x b e ≡ Some (record { value = x; number = h })
