@@ -42,3 +42,9 @@ pub record Answered {Q S : Type 0} (q : Ghosts Q) (s : Ghosts S) (t : Turn) (out
   pub pending : c .reports .pending ≡ t .after .held .pending
   pub bytes : out′ ≡ onBuffer (frameBytes (t .after .sent)) out
   pub lines : ledger′ ≡ onLedger (t .after .held .lines) ledger
+
+-- the equipment, both stores and both buffers are as they were
+pub record Untouched {Q S : Type 0} (q : Ghosts Q) (s : Ghosts S) (c c′ : Core Q S) (out out′ : List ℕ) (ledger ledger′ : List Line) : Type 0 where
+  pub equipment : found q s c′ ≡ found q s c
+  pub bytes : out′ ≡ out
+  pub lines : ledger′ ≡ ledger

@@ -1,6 +1,8 @@
 ghost use mathlib.Core.Path.{_≡_};
 ghost use lib.ListN.{length};
-ghost use Rattle.gem.specs.Calls.{Answered, callTurn, found};
+ghost use Prim.Native.Nat.{_≤_};
+ghost use Rattle.gem.specs.Calls.{Answered, Untouched, callTurn, found};
+ghost use Rattle.gem.specs.Endings.{Ended};
 ghost use Rattle.gem.specs.Turns.{callOf};
 use crate::act::act;
 use crate::act::refusal;
@@ -132,6 +134,8 @@ impl<Q: Store, S: Store> Equipment<Q, S> {
         ledger: &mut [Line],
     ) -> (u8, usize, usize, usize)
         ensures answered { λ r. ⌜ Answered Q·Store S·Store (callTurn (now (self .entry) .fit) (length (now (out .entry))) (length (now (ledger .entry))) (call .entry) (found Q·Store S·Store (now (self .entry) .core))) (now (out .entry)) (now (ledger .entry)) r (now (self .exit) .core) (now (out .exit)) (now (ledger .exit)) ⌝ }
+        ensures ended { λ _. ⌜ Ended (call .entry) (callTurn (now (self .entry) .fit) (length (now (out .entry))) (length (now (ledger .entry))) (call .entry) (found Q·Store S·Store (now (self .entry) .core))) (found Q·Store S·Store (now (self .entry) .core)) ⌝ }
+        ensures refused { λ r. ⌜ (1 ≤ r .0 → r .0 ≤ 9 → Untouched Q·Store S·Store (now (self .entry) .core) (now (self .exit) .core) (now (out .entry)) (now (out .exit)) (now (ledger .entry)) (now (ledger .exit))) ⌝ }
         ensures fit { λ _. ⌜ now (self .exit) .fit ≡ now (self .entry) .fit ⌝ }
     {
         match call {
