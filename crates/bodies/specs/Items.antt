@@ -2,7 +2,7 @@
 use Prim.Native.Nat.{ℕ, suc}
 use mathlib.Core.List.{List, [], _++_}
 use Rattle.secs.specs.declared.format.Format.{Format}
-use Rattle.secs.specs.Encode.{listBytes, valueBytes}
+use Rattle.items.specs.Encode.{listBytes, valueBytes}
 
 mutual
   -- a list of items, or a value of another format

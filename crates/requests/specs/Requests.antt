@@ -9,9 +9,9 @@ use Rattle.std.specs.declared.option.Option.the-variants.{Some, None}
 use Rattle.std.specs.declared.result.Result.{Result}
 use Rattle.std.specs.declared.result.Result.the-variants.{Ok, Err}
 use Rattle.secs.specs.declared.format.Format.the-variants as format
-use Rattle.values.specs.Values.{listAt, byteAt, wordAt}
-use Rattle.values.specs.declared.mismatch.Mismatch.{Mismatch}
-use Rattle.values.specs.declared.mismatch.Mismatch.the-variants.{Faulty, Unexpected}
+use Rattle.readers.specs.Values.{listAt, byteAt, wordAt}
+use Rattle.readers.specs.declared.mismatch.Mismatch.{Mismatch}
+use Rattle.readers.specs.declared.mismatch.Mismatch.the-variants.{Faulty, Unexpected}
 use Rattle.requests.specs.declared.request.Request.{Request}
 use Rattle.requests.specs.declared.request.Request.the-variants.{AreYouThere, Establish, GoOffline, GoOnline, EnableAlarm, Transmit, Purge}
 use Rattle.requests.specs.declared.request.FrameFault.{FrameFault}

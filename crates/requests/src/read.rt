@@ -2,11 +2,11 @@ ghost use mathlib.Core.Path.{_≡_};
 ghost use Rattle.requests.specs.Requests.{alarmEnable, commackOf, endingAt, faultAt, requestOf, unload};
 use crate::request::FrameFault;
 use crate::request::Request;
-use values::mismatch::Mismatch;
-use values::readers::read_binary;
-use values::readers::read_list;
-use values::readers::read_u1;
-use values::readers::read_u4;
+use readers::mismatch::Mismatch;
+use readers::value::read_binary;
+use readers::value::read_list;
+use readers::value::read_u1;
+use readers::value::read_u4;
 
 // The fault of a frame whose item at `place` is not the one listed.
 fn fault_at(mismatch: Mismatch, place: usize) -> FrameFault

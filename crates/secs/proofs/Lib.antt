@@ -1,4 +1,1 @@
 pub mod Tables
-pub mod Encoding
-pub mod Decoding
-pub mod Rewriting

@@ -1,4 +1,2 @@
-// The values that the equipment's items hold: one element each, and text.
-pub mod mismatch;
-pub mod readers;
+// Writers of the values that the items of the equipment hold: one element each, and text.
 pub mod writers;

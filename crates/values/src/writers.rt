@@ -5,9 +5,9 @@ ghost use mathlib.Core.List.{[], _∷_};
 ghost use mir.Val.{ofZ};
 ghost use mir.Syntax.{w32};
 ghost use Rattle.octets.specs.Big.{be4};
-ghost use Rattle.secs.specs.Encode.{itemEnd, itemWritten};
+ghost use Rattle.items.specs.Encode.{itemEnd, itemWritten};
+use items::write::write_item;
 use secs::format::Format;
-use secs::write::write_item;
 
 // B of one byte.
 pub fn write_binary(out: &mut [u8], at: usize, byte: u8) -> Option<usize>

@@ -1,5 +1,5 @@
 use mathlib.Core.Path.{_≡_, ap, _∙_}
-use Rattle.secs.specs.Encode.{itemEnd, itemWritten}
+use Rattle.items.specs.Encode.{itemEnd, itemWritten}
 use Rattle.secs.specs.declared.format.Format.the-variants.{Binary}
 use Rattle.bodies.proofs.write.write_header.Needs as need
 

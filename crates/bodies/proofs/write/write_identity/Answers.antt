@@ -4,7 +4,7 @@ use native.Mathlib.Omega.{arith}
 use lib.Chars.{codes}
 use Rattle.octets.specs.Big.{be4}
 use Rattle.octets.proofs.Writing.{none-written, then-written, last-written}
-use Rattle.secs.specs.Encode.{listBytes, valueBytes}
+use Rattle.items.specs.Encode.{listBytes, valueBytes}
 use Rattle.secs.specs.declared.format.Format.the-variants.{Binary, Ascii, U4}
 use Rattle.bodies.proofs.write.write_identity.Needs as need
 
