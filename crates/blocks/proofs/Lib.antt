@@ -1,1 +1,4 @@
 pub mod Layouts
+pub mod Sorting
+pub mod Cutting
+pub mod Held
