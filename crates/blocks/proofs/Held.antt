@@ -13,9 +13,9 @@ use Rattle.std.proofs.shelf.Ways.{tells}
 use Rattle.octets.specs.Big.{num2}
 use Rattle.store.specs.Reports.{Report, newestNumber}
 use Rattle.blocks.specs.Layout.{allZero, written, numberIn, reportIn, freeBlock}
-use Rattle.blocks.specs.Blocks.{insertReport, byNumber, intact, hasNumber, distinct, placeOf, firstFree}
+use Rattle.blocks.specs.Blocks.{lower, insertReport, byNumber, intact, hasNumber, distinct, placeOf, firstFree}
 use Rattle.blocks.proofs.Layouts.{zeros}
-use Rattle.blocks.proofs.Sorting.{AtLeast, Below, Ordered, firstNumber, lower, later, insert-none, insert-front, at-least-insert, below-insert, ordered-insert, length-insert, insert-last, insert-before-last, first-insert, newest-insert}
+use Rattle.blocks.proofs.Sorting.{AtLeast, Below, Ordered, firstNumber, later, insert-none, insert-front, at-least-insert, below-insert, ordered-insert, length-insert, insert-last, insert-before-last, first-insert, newest-insert}
 
 -- ---- one block
 
@@ -38,8 +38,8 @@ Kind b = ((allZero b ≡ true) × (numberIn b ≡ 0)) ⊎ ((allZero b ≡ false)
 kind : (b : List ℕ) → (allZero b || written b) ≡ true → Kind b
 kind b h =
     elim (cases-bool (allZero b)) [
-      inl z ↦ inl (z, free-number b z)
-    | inr z ↦ elim (or-cases (allZero b) (written b) h) [ inl y ↦ absurd (both-ways (allZero b) z y) | inr w ↦ inr (z, w, written-number b w) ]
+      | inl z ↦ inl (z, free-number b z)
+      | inr z ↦ elim (or-cases (allZero b) (written b) h) [ inl y ↦ absurd (both-ways (allZero b) z y) | inr w ↦ inr (z, w, written-number b w) ]
     ]
 
 pub used-is : (b : List ℕ) → written b ≡ true → allZero b ≡ false
@@ -63,7 +63,7 @@ keep : (b : List ℕ) (bs : List (List ℕ)) → allZero b ≡ false → byNumbe
 unfolding byNumber
 keep b bs z = cond-false (allZero b) _ _ z
 
-none-held : byNumber [] ≡ []
+pub none-held : byNumber [] ≡ []
 unfolding byNumber
 none-held = refl
 
@@ -71,34 +71,34 @@ ordered : (bs : List (List ℕ)) → Ordered (byNumber bs)
 ordered [] = subst Ordered (sym none-held) tt
 ordered (b ∷ bs) =
     elim (cases-bool (allZero b)) [
-      inl z ↦ subst Ordered (sym (skip b bs z)) (ordered bs)
-    | inr z ↦ subst Ordered (sym (keep b bs z)) (ordered-insert (reportIn b) (byNumber bs) (ordered bs))
+      | inl z ↦ subst Ordered (sym (skip b bs z)) (ordered bs)
+      | inr z ↦ subst Ordered (sym (keep b bs z)) (ordered-insert (reportIn b) (byNumber bs) (ordered bs))
     ]
 
 positive : (n : ℕ) → (n ≡ 0 → ⊥) → 1 ≤ n
 positive n h = elim (cases-lt 0 n) [ inl l ↦ omega arith | inr l ↦ absurd (h (omega arith)) ]
 
-some : (bs : List (List ℕ)) → intact bs ≡ true → AtLeast 1 (byNumber bs)
+pub some : (bs : List (List ℕ)) → intact bs ≡ true → AtLeast 1 (byNumber bs)
 some [] h = subst (AtLeast 1) (sym none-held) tt
 some (b ∷ bs) h =
     let rest = some bs (intact-rest b bs h) in
     elim (kind-first b bs h) [
-      inl k ↦ subst (AtLeast 1) (sym (skip b bs (k .0))) rest
-    | inr k ↦ subst (AtLeast 1) (sym (keep b bs (k .0))) (at-least-insert 1 (reportIn b) (byNumber bs) (positive (numberIn b) (k .2)) rest)
+      | inl k ↦ subst (AtLeast 1) (sym (skip b bs (k .0))) rest
+      | inr k ↦ subst (AtLeast 1) (sym (keep b bs (k .0))) (at-least-insert 1 (reportIn b) (byNumber bs) (positive (numberIn b) (k .2)) rest)
     ]
 
 pub first-cons : (b : List ℕ) (bs : List (List ℕ)) → intact (b ∷ bs) ≡ true → firstNumber (byNumber (b ∷ bs)) ≡ lower (numberIn b) (firstNumber (byNumber bs))
 first-cons b bs h =
     elim (kind-first b bs h) [
-      inl k ↦ ap firstNumber (skip b bs (k .0)) ∙ ap (λ n. lower n (firstNumber (byNumber bs))) (sym (k .1))
-    | inr k ↦ ap firstNumber (keep b bs (k .0)) ∙ first-insert (reportIn b) (byNumber bs) (k .2) (some bs (intact-rest b bs h))
+      | inl k ↦ ap firstNumber (skip b bs (k .0)) ∙ ap (λ n. lower n (firstNumber (byNumber bs))) (sym (k .1))
+      | inr k ↦ ap firstNumber (keep b bs (k .0)) ∙ first-insert (reportIn b) (byNumber bs) (k .2) (some bs (intact-rest b bs h))
     ]
 
 pub newest-cons : (b : List ℕ) (bs : List (List ℕ)) → intact (b ∷ bs) ≡ true → newestNumber (byNumber (b ∷ bs)) ≡ max (numberIn b) (newestNumber (byNumber bs))
 newest-cons b bs h =
     elim (kind-first b bs h) [
-      inl k ↦ ap newestNumber (skip b bs (k .0)) ∙ (let e = k .1 in omega arith)
-    | inr k ↦ ap newestNumber (keep b bs (k .0)) ∙ newest-insert (reportIn b) (byNumber bs) (ordered bs)
+      | inl k ↦ ap newestNumber (skip b bs (k .0)) ∙ (let e = k .1 in omega arith)
+      | inr k ↦ ap newestNumber (keep b bs (k .0)) ∙ newest-insert (reportIn b) (byNumber bs) (ordered bs)
     ]
 
 pub length-free : (b : List ℕ) (bs : List (List ℕ)) → intact (b ∷ bs) ≡ true → numberIn b ≡ 0 → length (byNumber (b ∷ bs)) ≡ length (byNumber bs)
@@ -107,8 +107,8 @@ length-free b bs h e = elim (kind-first b bs h) [ inl k ↦ ap length (skip b bs
 pub length-used : (b : List ℕ) (bs : List (List ℕ)) → intact (b ∷ bs) ≡ true → (numberIn b ≡ 0 → ⊥) → length (byNumber (b ∷ bs)) ≡ suc (length (byNumber bs))
 length-used b bs h e =
     elim (kind-first b bs h) [
-      inl k ↦ absurd (e (k .1))
-    | inr k ↦ ap length (keep b bs (k .0)) ∙ length-insert (reportIn b) (byNumber bs)
+      | inl k ↦ absurd (e (k .1))
+      | inr k ↦ ap length (keep b bs (k .0)) ∙ length-insert (reportIn b) (byNumber bs)
     ]
 
 -- ---- places
@@ -118,15 +118,15 @@ unfolding placeOf
 place-le n [] = omega arith
 place-le n (b ∷ bs) = let k = place-le n bs in grind (arith, tells)
 
-place-none : (n : ℕ) → placeOf n [] ≡ 0
+pub place-none : (n : ℕ) → placeOf n [] ≡ 0
 unfolding placeOf
 place-none n = refl
 
-place-here : (n : ℕ) (b : List ℕ) (bs : List (List ℕ)) → numberIn b ≡ n → placeOf n (b ∷ bs) ≡ 0
+pub place-here : (n : ℕ) (b : List ℕ) (bs : List (List ℕ)) → numberIn b ≡ n → placeOf n (b ∷ bs) ≡ 0
 unfolding placeOf
 place-here n b bs e = cond-true (eqb (numberIn b) n) 0 _ (eq-eqb (numberIn b) n e)
 
-place-later : (n : ℕ) (b : List ℕ) (bs : List (List ℕ)) → (numberIn b ≡ n → ⊥) → placeOf n (b ∷ bs) ≡ suc (placeOf n bs)
+pub place-later : (n : ℕ) (b : List ℕ) (bs : List (List ℕ)) → (numberIn b ≡ n → ⊥) → placeOf n (b ∷ bs) ≡ suc (placeOf n bs)
 unfolding placeOf
 place-later n b bs e = cond-false (eqb (numberIn b) n) 0 _ (ne-eqb (numberIn b) n e)
 
@@ -138,14 +138,14 @@ unfolding hasNumber
 has-is n [] = ap (λ k. ltb k 0) (sym (place-none n))
 has-is n (b ∷ bs) =
     elim (cases-eq (numberIn b) n) [
-      inl e ↦
-        (let p = place-here n b bs e in
-        or-left (eqb (numberIn b) n) (hasNumber n bs) (eq-eqb (numberIn b) n e)
-        ∙ sym (lt-ltb (placeOf n (b ∷ bs)) (suc (length bs)) (omega arith)))
-    | inr e ↦
-        (let p = place-later n b bs e in
-        let q = has-is n bs in
-        ap (λ t. t || hasNumber n bs) (ne-eqb (numberIn b) n e) ∙ (q ∙ shifted (placeOf n bs) (placeOf n (b ∷ bs)) (length bs) p))
+      | inl e ↦
+          (let p = place-here n b bs e in
+          or-left (eqb (numberIn b) n) (hasNumber n bs) (eq-eqb (numberIn b) n e)
+          ∙ sym (lt-ltb (placeOf n (b ∷ bs)) (suc (length bs)) (omega arith)))
+      | inr e ↦
+          (let p = place-later n b bs e in
+          let q = has-is n bs in
+          ap (λ t. t || hasNumber n bs) (ne-eqb (numberIn b) n e) ∙ (q ∙ shifted (placeOf n bs) (placeOf n (b ∷ bs)) (length bs) p))
     ]
 
 pub first-free-is : (bs : List (List ℕ)) → intact bs ≡ true → firstFree bs ≡ placeOf 0 bs
@@ -153,8 +153,8 @@ unfolding firstFree
 first-free-is [] h = sym (place-none 0)
 first-free-is (b ∷ bs) h =
     elim (kind-first b bs h) [
-      inl k ↦ cond-true (allZero b) 0 _ (k .0) ∙ sym (place-here 0 b bs (k .1))
-    | inr k ↦ cond-false (allZero b) 0 _ (k .0) ∙ (ap suc (first-free-is bs (intact-rest b bs h)) ∙ sym (place-later 0 b bs (k .2)))
+      | inl k ↦ cond-true (allZero b) 0 _ (k .0) ∙ sym (place-here 0 b bs (k .1))
+      | inr k ↦ cond-false (allZero b) 0 _ (k .0) ∙ (ap suc (first-free-is bs (intact-rest b bs h)) ∙ sym (place-later 0 b bs (k .2)))
     ]
 
 -- where a block is free, fewer reports are held than there are blocks; where none is, as many
@@ -169,8 +169,8 @@ held-room [] h l = absurd (omega arith)
 held-room (b ∷ bs) h l =
     let rest = intact-rest b bs h in
     elim (cases-eq (numberIn b) 0) [
-      inl e ↦ omega (arith, length-free b bs h e, held-le bs rest)
-    | inr e ↦ (let p = place-later 0 b bs e in let q : length (byNumber bs) < length bs = held-room bs rest (omega arith) in omega (arith, length-used b bs h e))
+      | inl e ↦ omega (arith, length-free b bs h e, held-le bs rest)
+      | inr e ↦ (let p = place-later 0 b bs e in let q : length (byNumber bs) < length bs = held-room bs rest (omega arith) in omega (arith, length-used b bs h e))
     ]
 
 pub held-full : (bs : List (List ℕ)) → intact bs ≡ true → length bs ≤ placeOf 0 bs → length bs ≤ length (byNumber bs)
@@ -178,8 +178,8 @@ held-full [] h l = omega arith
 held-full (b ∷ bs) h l =
     let rest = intact-rest b bs h in
     elim (cases-eq (numberIn b) 0) [
-      inl e ↦ (let p = place-here 0 b bs e in absurd (omega arith))
-    | inr e ↦ (let p = place-later 0 b bs e in let q : length bs ≤ length (byNumber bs) = held-full bs rest (omega arith) in omega (arith, length-used b bs h e))
+      | inl e ↦ (let p = place-here 0 b bs e in absurd (omega arith))
+      | inr e ↦ (let p = place-later 0 b bs e in let q : length bs ≤ length (byNumber bs) = held-full bs rest (omega arith) in omega (arith, length-used b bs h e))
     ]
 
 -- ---- a block written over another
@@ -221,21 +221,21 @@ distinct-set (b ∷ bs) zero blk i d new =
     let p = and-parts (allZero b || not (hasNumber (numberIn b) bs)) (distinct bs) d in
     and-from _ _
     (elim new [
-      inl z ↦ or-left (allZero blk) (not (hasNumber (numberIn blk) bs)) z
-    | inr h ↦ or-right (allZero blk) (not (hasNumber (numberIn blk) bs)) (not-from-false (hasNumber (numberIn blk) bs) (not-first (numberIn blk) b bs h .1))
+      | inl z ↦ or-left (allZero blk) (not (hasNumber (numberIn blk) bs)) z
+      | inr h ↦ or-right (allZero blk) (not (hasNumber (numberIn blk) bs)) (not-from-false (hasNumber (numberIn blk) bs) (not-first (numberIn blk) b bs h .1))
     ])
     (p .1)
 distinct-set (b ∷ bs) (suc k) blk i d new =
     let p = and-parts (allZero b || not (hasNumber (numberIn b) bs)) (distinct bs) d in
     let rest : (allZero blk ≡ true) ⊎ (hasNumber (numberIn blk) bs ≡ false) = elim new [ inl z ↦ inl z | inr h ↦ inr (not-first (numberIn blk) b bs h .1) ] in
     let apart : (numberIn b ≡ 0 → ⊥) → numberIn blk ≡ numberIn b → ⊥ =
-        λ used e. elim new [ inl z ↦ used (sym e ∙ free-number blk z) | inr h ↦ not-first (numberIn blk) b bs h .0 (sym e) ] in
+    λ used e. elim new [ inl z ↦ used (sym e ∙ free-number blk z) | inr h ↦ not-first (numberIn blk) b bs h .0 (sym e) ] in
     and-from _ _
     (elim (kind-first b bs i) [
-      inl q ↦ or-left (allZero b) (not (hasNumber (numberIn b) (set bs k blk))) (q .0)
-    | inr q ↦
-        or-right (allZero b) (not (hasNumber (numberIn b) (set bs k blk)))
-        (not-from-false (hasNumber (numberIn b) (set bs k blk)) (has-set (numberIn b) bs k blk (alone b bs (q .0) (p .0)) (apart (q .2))))
+      | inl q ↦ or-left (allZero b) (not (hasNumber (numberIn b) (set bs k blk))) (q .0)
+      | inr q ↦
+          or-right (allZero b) (not (hasNumber (numberIn b) (set bs k blk)))
+          (not-from-false (hasNumber (numberIn b) (set bs k blk)) (has-set (numberIn b) bs k blk (alone b bs (q .0) (p .0)) (apart (q .2))))
     ])
     (distinct-set bs k blk (intact-rest b bs i) (p .1) rest)
 
@@ -259,8 +259,8 @@ below-all n (b ∷ bs) i h =
     let p = above n b bs i h in
     let rest = below-all n bs (intact-rest b bs i) (p .1) in
     elim (kind-first b bs i) [
-      inl k ↦ subst (Below n) (sym (skip b bs (k .0))) rest
-    | inr k ↦ subst (Below n) (sym (keep b bs (k .0))) (below-insert n (reportIn b) (byNumber bs) (p .0) rest)
+      | inl k ↦ subst (Below n) (sym (skip b bs (k .0))) rest
+      | inr k ↦ subst (Below n) (sym (keep b bs (k .0))) (below-insert n (reportIn b) (byNumber bs) (p .0) rest)
     ]
 
 -- a report above all others, written over a free block, comes last
@@ -272,18 +272,18 @@ put-last (b ∷ bs) blk r i z e h l =
     let p = above (r .number) b bs i h in
     let rest = intact-rest b bs i in
     elim (kind-first b bs i) [
-      inl k ↦
-        (ap (λ j. byNumber (set (b ∷ bs) j blk)) (cond-true (allZero b) 0 (suc (firstFree bs)) (k .0))
-        ∙ (keep blk bs z
-        ∙ (ap (λ x. insertReport x (byNumber bs)) e
-        ∙ (insert-last r (byNumber bs) (below-all (r .number) bs rest (p .1)) ∙ ap (λ x. x ++ r ∷ []) (sym (skip b bs (k .0)))))))
-    | inr k ↦
-        (let at = cond-false (allZero b) 0 (suc (firstFree bs)) (k .0) in
-        let ih = put-last bs blk r rest z e (p .1) (omega arith) in
-        ap (λ j. byNumber (set (b ∷ bs) j blk)) at
-        ∙ (keep b (set bs (firstFree bs) blk) (k .0)
-        ∙ (ap (insertReport (reportIn b)) ih
-        ∙ (insert-before-last (reportIn b) r (byNumber bs) (p .0) ∙ ap (λ x. x ++ r ∷ []) (sym (keep b bs (k .0)))))))
+      | inl k ↦
+          (ap (λ j. byNumber (set (b ∷ bs) j blk)) (cond-true (allZero b) 0 (suc (firstFree bs)) (k .0))
+          ∙ (keep blk bs z
+          ∙ (ap (λ x. insertReport x (byNumber bs)) e
+          ∙ (insert-last r (byNumber bs) (below-all (r .number) bs rest (p .1)) ∙ ap (λ x. x ++ r ∷ []) (sym (skip b bs (k .0)))))))
+      | inr k ↦
+          (let at = cond-false (allZero b) 0 (suc (firstFree bs)) (k .0) in
+          let ih = put-last bs blk r rest z e (p .1) (omega arith) in
+          ap (λ j. byNumber (set (b ∷ bs) j blk)) at
+          ∙ (keep b (set bs (firstFree bs) blk) (k .0)
+          ∙ (ap (insertReport (reportIn b)) ih
+          ∙ (insert-before-last (reportIn b) r (byNumber bs) (p .0) ∙ ap (λ x. x ++ r ∷ []) (sym (keep b bs (k .0)))))))
     ]
 
 -- ---- one report less
@@ -324,20 +324,20 @@ oldest-used b bs r rs z w new others [] q e =
     moved (b ∷ bs) _ _ (reportIn b) r (byNumber bs) rs (ap (λ x. placeOf (x .number) (b ∷ bs)) er) er es (oldest-here b bs w)
 oldest-used b bs r rs z w new others (s ∷ ss) q e =
     elim (cases-lt (numberIn b) (s .number)) [
-      inl l ↦
-        (let i = sym (insert-front (reportIn b) s ss l) ∙ e in
-        let er : reportIn b ≡ r = cc in
-        let es : byNumber bs ≡ rs = cc in
-        moved (b ∷ bs) _ _ (reportIn b) r (byNumber bs) rs (ap (λ x. placeOf (x .number) (b ∷ bs)) er) er es (oldest-here b bs w))
-    | inr l ↦
-        (let i = sym (later (reportIn b) s ss l) ∙ e in
-        let er : s ≡ r = cc in
-        let es : insertReport (reportIn b) ss ≡ rs = cc in
-        let o = others s ss q in
-        let there = has-is (s .number) bs ∙ lt-ltb (placeOf (s .number) bs) (length bs) (o .within) in
-        let ne : numberIn b ≡ s .number → ⊥ = λ x. both-ways (hasNumber (s .number) bs) (ap (λ n. hasNumber n bs) (sym x) ∙ new) there in
-        moved (b ∷ bs) _ _ s r rs rs (ap (λ x. placeOf (x .number) (b ∷ bs)) er) er refl
-        (oldest-later b bs s ss rs ne o (keep b (set bs (placeOf (s .number) bs) freeBlock) z ∙ (ap (insertReport (reportIn b)) (o .rest) ∙ es))))
+      | inl l ↦
+          (let i = sym (insert-front (reportIn b) s ss l) ∙ e in
+          let er : reportIn b ≡ r = cc in
+          let es : byNumber bs ≡ rs = cc in
+          moved (b ∷ bs) _ _ (reportIn b) r (byNumber bs) rs (ap (λ x. placeOf (x .number) (b ∷ bs)) er) er es (oldest-here b bs w))
+      | inr l ↦
+          (let i = sym (later (reportIn b) s ss l) ∙ e in
+          let er : s ≡ r = cc in
+          let es : insertReport (reportIn b) ss ≡ rs = cc in
+          let o = others s ss q in
+          let there = has-is (s .number) bs ∙ lt-ltb (placeOf (s .number) bs) (length bs) (o .within) in
+          let ne : numberIn b ≡ s .number → ⊥ = λ x. both-ways (hasNumber (s .number) bs) (ap (λ n. hasNumber n bs) (sym x) ∙ new) there in
+          moved (b ∷ bs) _ _ s r rs rs (ap (λ x. placeOf (x .number) (b ∷ bs)) er) er refl
+          (oldest-later b bs s ss rs ne o (keep b (set bs (placeOf (s .number) bs) freeBlock) z ∙ (ap (insertReport (reportIn b)) (o .rest) ∙ es))))
     ]
 
 pub oldest-block : (bs : List (List ℕ)) (r : Report) (rs : List Report) → intact bs ≡ true → distinct bs ≡ true → byNumber bs ≡ r ∷ rs → Oldest bs (placeOf (r .number) bs) r rs
@@ -348,12 +348,12 @@ oldest-block (b ∷ bs) r rs i d e =
     let first : AtLeast 1 (r ∷ rs) = subst (AtLeast 1) e (some (b ∷ bs) i) in
     let one = first .0 in
     elim (kind-first b bs i) [
-      inl k ↦
-        (let o = oldest-block bs r rs rest (p .1) (sym (skip b bs (k .0)) ∙ e) in
-        let n = k .1 in
-        let ne : numberIn b ≡ r .number → ⊥ = λ x. omega arith in
-        oldest-later b bs r rs rs ne o (skip b (set bs (placeOf (r .number) bs) freeBlock) (k .0) ∙ o .rest))
-    | inr k ↦
-        oldest-used b bs r rs (k .0) (k .1) (alone b bs (k .0) (p .0)) (λ s ss q. oldest-block bs s ss rest (p .1) q)
-        (byNumber bs) refl (sym (keep b bs (k .0)) ∙ e)
+      | inl k ↦
+          (let o = oldest-block bs r rs rest (p .1) (sym (skip b bs (k .0)) ∙ e) in
+          let n = k .1 in
+          let ne : numberIn b ≡ r .number → ⊥ = λ x. omega arith in
+          oldest-later b bs r rs rs ne o (skip b (set bs (placeOf (r .number) bs) freeBlock) (k .0) ∙ o .rest))
+      | inr k ↦
+          oldest-used b bs r rs (k .0) (k .1) (alone b bs (k .0) (p .0)) (λ s ss q. oldest-block bs s ss rest (p .1) q)
+          (byNumber bs) refl (sym (keep b bs (k .0)) ∙ e)
     ]

@@ -2,3 +2,4 @@ pub mod Layouts
 pub mod Sorting
 pub mod Cutting
 pub mod Held
+pub mod Scanning

@@ -10,7 +10,7 @@ use lib.ListN.{length}
 use Rattle.std.proofs.shelf.Tests.{cond-true, cond-false, cond-both, lt-ltb, le-ltb, ltb-true, ltb-false, cases-lt}
 use Rattle.std.proofs.shelf.Ways.{tells}
 use Rattle.store.specs.Reports.{Report, newestNumber}
-use Rattle.blocks.specs.Blocks.{insertReport}
+use Rattle.blocks.specs.Blocks.{insertReport, lower}
 
 -- every number is at least m
 abbrev pub AtLeast : ℕ → List Report → Type 0
@@ -31,10 +31,6 @@ Ordered (r ∷ rs) = AtLeast (r .number) rs × Ordered rs
 abbrev pub firstNumber : List Report → ℕ
 firstNumber [] = 0
 firstNumber (r ∷ rs) = r .number
-
--- the lower of two numbers, 0 being none
-abbrev pub lower : ℕ → ℕ → ℕ
-lower a b = cond (eqb a 0) b (cond (eqb b 0) a (min a b))
 
 -- it goes first, or after the first
 front : (r s : Report) (rs : List Report) → r .number < s .number → insertReport r (s ∷ rs) ≡ r ∷ s ∷ rs
@@ -97,8 +93,8 @@ unfolding insertReport
 insert-before-last r q [] h = front r q [] h
 insert-before-last r q (s ∷ rs) h =
     elim (cases-lt (r .number) (s .number)) [
-      inl l ↦ front r s (rs ++ q ∷ []) l ∙ ap (λ x. x ++ q ∷ []) (sym (front r s rs l))
-    | inr l ↦ later r s (rs ++ q ∷ []) l ∙ (ap (λ x. s ∷ x) (insert-before-last r q rs h) ∙ ap (λ x. x ++ q ∷ []) (sym (later r s rs l)))
+      | inl l ↦ front r s (rs ++ q ∷ []) l ∙ ap (λ x. x ++ q ∷ []) (sym (front r s rs l))
+      | inr l ↦ later r s (rs ++ q ∷ []) l ∙ (ap (λ x. s ∷ x) (insert-before-last r q rs h) ∙ ap (λ x. x ++ q ∷ []) (sym (later r s rs l)))
     ]
 
 -- the first number after an insertion
@@ -130,6 +126,6 @@ pub newest-insert : (r : Report) (rs : List Report) → Ordered rs → newestNum
 newest-insert r [] o = ap newestNumber (insert-none r) ∙ omega arith
 newest-insert r (s ∷ rs) o =
     elim (cases-lt (r .number) (s .number)) [
-      inl l ↦ ap newestNumber (front r s rs l) ∙ (let k = first-le-newest s rs o in omega arith)
-    | inr l ↦ ap newestNumber (later r s rs l) ∙ (newest-later s r rs ∙ newest-step s r rs l (newest-insert r rs (o .1)))
+      | inl l ↦ ap newestNumber (front r s rs l) ∙ (let k = first-le-newest s rs o in omega arith)
+      | inr l ↦ ap newestNumber (later r s rs l) ∙ (newest-later s r rs ∙ newest-step s r rs l (newest-insert r rs (o .1)))
     ]

@@ -1,5 +1,5 @@
 -- The list of reports that blocks hold, and what becomes of their bytes.
-use Prim.Native.Nat.{ℕ, zero, suc, _+_, _*_, _/_}
+use Prim.Native.Nat.{ℕ, zero, suc, _+_, _*_, _/_, min}
 use mathlib.Core.Bool.{Bool, true, false, cond, not, _&&_, _||_}
 use mathlib.Core.List.{List, [], _∷_}
 use lib.Dec.{eqb, ltb}
@@ -70,3 +70,7 @@ freed n bytes (r ∷ rs) = placed bytes (placeOf (r .number) (blocksOf n bytes) 
 -- the bytes after a removal: the oldest report's block is free
 abbrev pub bytesAfterRemove : ℕ → List ℕ → List ℕ
 bytesAfterRemove n bytes = freed n bytes (heldIn n bytes)
+
+-- the lower of two numbers, where 0 is none
+abbrev pub lower : ℕ → ℕ → ℕ
+lower a b = cond (eqb a 0) b (cond (eqb b 0) a (min a b))

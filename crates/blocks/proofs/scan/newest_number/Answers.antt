@@ -1,0 +1,34 @@
+use mathlib.Core.Path.{_≡_, refl, ap, sym, subst, _∙_}
+use mathlib.Core.Bool.{Bool, true, false, not, _&&_, _||_}
+use mathlib.Core.List.{List, [], _∷_}
+use Prim.Native.Nat.{ℕ, zero, suc, _+_, _-_, _*_, _≤_, _<_, max}
+use native.Mathlib.Omega.{arith}
+use lib.Dec.{eqb, ltb}
+use lib.ListN.{length, getD, drop}
+use Rattle.store.specs.Reports.{newestNumber}
+use Rattle.blocks.specs.Layout.{numberIn}
+use Rattle.blocks.specs.Blocks.{blocksOf, byNumber, heldIn}
+use Rattle.blocks.proofs.Cutting.{length-blocks}
+use Rattle.blocks.proofs.Scanning.{intact-drop, newest-step, held-end}
+use Rattle.blocks.proofs.scan.newest_number.Needs as need
+use Rattle.blocks.proofs.scan.newest_number.Needs.{then-number-most, else-number-most}
+
+pub loop-place-again : need.loop-place-again
+loop-place-again c =
+    let bs = blocksOf (c .args .count) (c .args .bytes .now) in
+    let i = c .loop-place .place in
+    let h : i < length bs = omega (arith, length-blocks (c .args .count) (c .args .bytes .now)) in
+    let s = newest-step bs i h (intact-drop i bs (c .pre .whole)) in
+    let n = c .number-at-number .ensures in
+    let inv = c .loop-place .inv in
+    elim (c .if-number-most .came) [ then-number-most w ↦ omega (arith, w .most-is) | else-number-most w ↦ omega (arith, w .most-is) ]
+
+pub returns : need.returns
+unfolding heldIn
+returns c =
+    let bs = blocksOf (c .args .count) (c .args .bytes .now) in
+    let i = c .loop-place .place in
+    let h : length bs ≤ i = omega (arith, length-blocks (c .args .count) (c .args .bytes .now)) in
+    let e : newestNumber (byNumber (drop i bs)) ≡ 0 = ap newestNumber (held-end bs i h) in
+    let inv = c .loop-place .inv in
+    omega arith
