@@ -15,6 +15,7 @@ pub mod ring;
 // A list of reports, oldest first, of a capacity that never changes.
 pub trait Store {
     ghost records: { Self → List Report };
+
     ghost limit: { Self → ℕ };
 
     // Adds a report at the end, or says why not and changes nothing.

@@ -1,12 +1,14 @@
 ghost use Prim.Native.Nat.{_≤_};
 
+pub mod calls;
+
 // The memory of one report: its body is the first `length` bytes of `body`.
 #[derive(Clone, Copy)]
 pub struct Record {
-    pub number: u32,
-    pub stream: u8,
-    pub function: u8,
-    pub length: usize,
-    pub body: [u8; 480],
+    number: u32,
+    stream: u8,
+    function: u8,
+    length: usize,
+    body: [u8; 480],
     ghost fits: { length ≤ 480 },
 }

@@ -1,0 +1,3 @@
+// The lines of the ledger.
+pub mod journal;
+pub mod line;
