@@ -75,7 +75,7 @@ ordered (b ∷ bs) =
       | inr z ↦ subst Ordered (sym (keep b bs z)) (ordered-insert (reportIn b) (byNumber bs) (ordered bs))
     ]
 
-positive : (n : ℕ) → (n ≡ 0 → ⊥) → 1 ≤ n
+pub positive : (n : ℕ) → (n ≡ 0 → ⊥) → 1 ≤ n
 positive n h = elim (cases-lt 0 n) [ inl l ↦ omega arith | inr l ↦ absurd (h (omega arith)) ]
 
 pub some : (bs : List (List ℕ)) → intact bs ≡ true → AtLeast 1 (byNumber bs)

@@ -12,6 +12,7 @@ use Rattle.std.specs.Holes.{between}
 use Rattle.std.specs.shelf.Lists.{sum}
 use Rattle.std.proofs.shelf.Lists.{append-nil, append-assoc, length-append, length-replicate, length-take, length-drop, take-append-drop, drop-more, take-at, drop-at, drop-drop, take-all, drop-all, drop-replicate, replicate-append-replicate, getD-append-right, same-lists}
 use Rattle.std.proofs.shelf.Tests.{cond-true, cond-false, and-from, and-parts, eq-eqb, ne-eqb, eqb-true, eqb-false, le-leb, leb-true, not-from-false, not-true, cases-bool}
+use Rattle.std.proofs.shelf.Edits.{length-between}
 use Rattle.std.proofs.shelf.Bits.{shr-shr}
 use Rattle.octets.specs.Big.{be2, num2, num4}
 use Rattle.octets.specs.Places.{placed}
@@ -161,3 +162,17 @@ module _ (r : Report) (some : r .number ≡ 0 → ⊥) (fits : r .number < 2 ^ 3
       ∙ (ap (λ x. made (r .number) (r .stream) x (between 8 (8 + num2 b 6) b)) function-is
       ∙ (ap (λ x. made (r .number) (r .stream) (r .function) (between 8 (8 + x) b)) length-is
       ∙ ap (made (r .number) (r .stream) (r .function)) body-is)))
+
+-- ---- a written block
+
+module _ (b : List ℕ) (ok : written b ≡ true) where
+  -- its parts: number, body length, check, zeros after the body
+  pub parts-of : (eqb (numberIn b) 0 ≡ false) × (num2 b 6 ≤ 480) × (num2 b 510 ≡ sum (take 510 b) % 65536) × (allZero (between (8 + num2 b 6) 510 b) ≡ true)
+  parts-of =
+      let p = and-parts (not (eqb (numberIn b) 0)) _ ok in
+      let q = and-parts (leb (num2 b 6) 480) _ (p .1) in
+      let r = and-parts (eqb (num2 b 510) (sum (take 510 b) % 65536)) _ (q .1) in
+      (not-true (eqb (numberIn b) 0) (p .0), leb-true (num2 b 6) 480 (q .0), eqb-true (num2 b 510) _ (r .0), r .1)
+
+  pub body-long : length b ≡ 512 → length (reportIn b .body) ≡ num2 b 6
+  body-long long = let h = parts-of .1 in length-between b 8 (8 + num2 b 6) (omega arith) ∙ omega arith

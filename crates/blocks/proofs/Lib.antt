@@ -3,3 +3,4 @@ pub mod Sorting
 pub mod Cutting
 pub mod Held
 pub mod Scanning
+pub mod Changes

@@ -1,11 +1,15 @@
 // One block: the 512 bytes of a report (specs/Layout.antt).
 ghost use mathlib.Core.Path.{_≡_};
 ghost use Prim.Native.Nat.{_+_, _*_, _%_, _≤_};
-ghost use lib.ListN.{length};
+ghost use mathlib.Core.Bool.{true};
+ghost use mathlib.Core.List.{[], _∷_};
+ghost use lib.ListN.{length, take, drop};
+ghost use Rattle.store.specs.Answers.{readAnswer, readBody};
 ghost use Rattle.std.specs.shelf.Lists.{sum};
 ghost use Rattle.octets.specs.Places.{placed};
-ghost use Rattle.blocks.specs.Layout.{allZero, headOf, blockOf, freeBlock, written};
+ghost use Rattle.blocks.specs.Layout.{allZero, headOf, blockOf, freeBlock, written, reportIn};
 use octets::copy_at;
+use store::answers::Copied;
 
 // The bytes of a block.
 pub(crate) const BLOCK: usize = 512;
@@ -112,4 +116,26 @@ pub(crate) fn is_written(block: &[u8]) -> bool
         return false;
     }
     all_zero(&block[8 + length..510])
+}
+
+// Copies the body of a written block to the front of `buffer` and tells the rest; nothing where the buffer is below 480 bytes.
+pub(crate) fn copy_out(block: &[u8], buffer: &mut [u8]) -> Option<Copied>
+    requires room { ⌜ length (now block) ≡ 512 ⌝ }
+    requires used { ⌜ written (now block) ≡ true ⌝ }
+    ensures answer { λ r. ⌜ r ≡ readAnswer (reportIn (now (block .entry)) ∷ []) (length (now (buffer .entry))) ⌝ }
+    ensures body { λ _. ⌜ take (length (readBody (reportIn (now (block .entry)) ∷ []) (length (now (buffer .entry))))) (now (buffer .exit)) ≡ readBody (reportIn (now (block .entry)) ∷ []) (length (now (buffer .entry))) ⌝ }
+    ensures later { λ _. ⌜ drop (length (readBody (reportIn (now (block .entry)) ∷ []) (length (now (buffer .entry))))) (now (buffer .exit)) ≡ drop (length (readBody (reportIn (now (block .entry)) ∷ []) (length (now (buffer .entry))))) (now (buffer .entry)) ⌝ }
+{
+    if buffer.len() < BODY {
+        return None;
+    }
+    let number = u32::from_be_bytes([block[0], block[1], block[2], block[3]]);
+    let length = block[6] as usize * 256 + block[7] as usize;
+    copy_at(buffer, 0, &block[8..8 + length]);
+    Some(Copied {
+        number,
+        stream: block[4],
+        function: block[5],
+        length,
+    })
 }

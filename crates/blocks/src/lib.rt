@@ -1,3 +1,4 @@
 // A store of reports in blocks of 512 bytes, for bytes that outlive the program.
-pub mod block;
-pub mod scan;
+mod block;
+pub mod block_store;
+mod scan;

@@ -6,7 +6,7 @@ ghost use Prim.Native.Nat.{_+_, _*_, _≤_, _<_};
 ghost use lib.ListN.{length, getD, drop};
 ghost use Rattle.store.specs.Reports.{oldestNumber, newestNumber};
 ghost use Rattle.blocks.specs.Layout.{numberIn};
-ghost use Rattle.blocks.specs.Blocks.{blocksOf, placeOf, intact, distinct, heldIn, lower};
+ghost use Rattle.blocks.specs.Blocks.{blocksOf, placeOf, intact, distinct, capacityOf, heldIn, lower};
 use crate::block::BLOCK;
 use crate::block::all_zero;
 use crate::block::is_written;
@@ -119,4 +119,15 @@ pub(crate) fn is_distinct(bytes: &[u8], count: usize) -> bool
         }
     }
     true
+}
+
+// How many blocks a store over the bytes has.
+pub(crate) fn sound_blocks(bytes: &[u8]) -> usize
+    ensures { λ r. ⌜ r ≡ capacityOf (now (bytes .entry)) ⌝ }
+{
+    let whole = bytes.len() / BLOCK;
+    if is_intact(bytes, whole) && is_distinct(bytes, whole) {
+        return whole;
+    }
+    0
 }

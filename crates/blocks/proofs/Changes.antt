@@ -1,0 +1,198 @@
+-- What a put and a removal leave of sound blocks.
+use mathlib.Core.Path.{_≡_, refl, ap, sym, subst, _∙_}
+use mathlib.Core.Bool.{Bool, true, false, cond, not, _&&_, _||_}
+use mathlib.Core.Logic.{_⊎_, inl, inr}
+use mathlib.Core.List.{List, [], _∷_, _++_}
+use Prim.Native.Nat.{ℕ, zero, suc, _+_, _-_, _*_, _/_, _^_, _≤_, _<_}
+use native.Mathlib.Omega.{arith}
+use lib.Dec.{eqb, ltb, leb}
+use lib.ListN.{length, getD, set, take, drop}
+use Rattle.std.specs.Holes.{between}
+use Rattle.std.specs.declared.option.Option.{Option}
+use Rattle.std.specs.declared.option.Option.the-variants.{Some, None}
+use Rattle.std.proofs.shelf.Lists.{length-replicate}
+use Rattle.std.proofs.shelf.Tests.{cond-true, cond-false, cond-both, and-parts, or-parts, or-left, or-right, le-leb, ltb-false}
+use Rattle.octets.specs.Places.{placed}
+use Rattle.octets.proofs.Placing.{length-placed}
+use Rattle.store.specs.Reports.{Report, oldestNumber, newestNumber, unfit, putNumber, afterPut, afterRemove}
+use Rattle.store.specs.Answers.{readAnswer, readBody}
+use Rattle.store.proofs.Puts.{fit-report, put-taken, after-taken, put-full, after-full}
+use Rattle.blocks.specs.Layout.{allZero, written, numberIn, reportIn, blockOf, freeBlock}
+use Rattle.blocks.specs.Blocks.{blocksOf, byNumber, intact, hasNumber, distinct, placeOf, firstFree, capacityOf, heldIn, bytesAfterPut, bytesAfterRemove, freed}
+use Rattle.blocks.proofs.Layouts.{zeros, length-block, number-is, written-is, report-is}
+use Rattle.blocks.proofs.Cutting.{length-blocks, block-part, blocks-placed}
+use Rattle.blocks.proofs.Held.{Oldest, oldest-block, put-last, new-number, intact-set, distinct-set, first-free-is, held-room, held-full, used-is}
+
+-- n blocks lie within the bytes, are intact, and differ in their numbers
+pub record Sound (n : ℕ) (xs : List ℕ) : Type 0 where
+  pub room : n * 512 ≤ length xs
+  pub whole : intact (blocksOf n xs) ≡ true
+  pub apart : distinct (blocksOf n xs) ≡ true
+
+-- as many blocks as the capacity are sound
+pub sound-capacity : (xs : List ℕ) → Sound (capacityOf xs) xs
+unfolding capacityOf blocksOf intact distinct
+sound-capacity xs =
+    let n = length xs / 512 in
+    cond-both (intact (blocksOf n xs) && distinct (blocksOf n xs)) n 0 (λ m. Sound m xs)
+    (λ e. let p = and-parts (intact (blocksOf n xs)) (distinct (blocksOf n xs)) e in record { room = omega arith; whole = p .0; apart = p .1 })
+    (λ e. record { room = omega arith; whole = refl; apart = refl })
+
+-- ---- a put that is refused
+
+pub put-unfit : (held : List Report) (n : ℕ) (r : Report) → unfit r ≡ true → putNumber held n r ≡ 3
+put-unfit held n r e = cond-true (unfit r) 3 _ e
+
+pub put-stale : (held : List Report) (n : ℕ) (r : Report) → unfit r ≡ false → r .number ≤ newestNumber held → putNumber held n r ≡ 2
+put-stale held n r e h = cond-false (unfit r) 3 _ e ∙ cond-true (leb (r .number) (newestNumber held)) 2 _ (le-leb (r .number) (newestNumber held) h)
+
+-- an answer above 0 leaves the list and the bytes
+module _ (n : ℕ) (xs : List ℕ) (r : Report) (a : ℕ) (answer : putNumber (heldIn n xs) n r ≡ a) (refused : eqb a 0 ≡ false) where
+  pub refused-list : heldIn n xs ≡ afterPut (heldIn n xs) n r
+  refused-list = sym (ap (λ (m : ℕ). cond (eqb m 0) (heldIn n xs ++ (r ∷ [])) (heldIn n xs)) answer ∙ cond-false (eqb a 0) _ _ refused)
+
+  pub refused-bytes : xs ≡ bytesAfterPut n xs r
+  unfolding bytesAfterPut
+  refused-bytes =
+      sym (ap (λ (m : ℕ). cond (eqb m 0) (placed xs (firstFree (blocksOf n xs) * 512) (blockOf r)) xs) answer ∙ cond-false (eqb a 0) _ _ refused)
+
+-- ---- a put, k being the place of the first block with number 0
+
+module _ (n : ℕ) (xs : List ℕ) (s : Sound n xs) (k : ℕ) (place : k ≡ 0 + placeOf 0 (blocksOf n xs)) where
+  first-is : firstFree (blocksOf n xs) ≡ k
+  first-is = first-free-is (blocksOf n xs) (s .whole) ∙ omega arith
+
+  -- no block is free: the list is at capacity
+  pub full-list : n ≤ k → n ≤ length (heldIn n xs)
+  unfolding heldIn
+  full-list h =
+      let l = length-blocks n xs in
+      let f : length (blocksOf n xs) ≤ length (byNumber (blocksOf n xs)) = held-full (blocksOf n xs) (s .whole) (omega arith) in
+      omega arith
+
+  module _ (r : Report) (fit : unfit r ≡ false) (fits : r .number < 2 ^ 32) (newer : newestNumber (heldIn n xs) < r .number) (here : k < n) where
+    some : r .number ≡ 0 → ⊥
+    some e = omega arith
+
+    short : length (r .body) ≤ 480
+    short = ltb-false 480 (length (r .body)) (or-parts (eqb (r .number) 0) (ltb 480 (length (r .body))) fit .1)
+
+    newer-blocks : newestNumber (byNumber (blocksOf n xs)) < r .number
+    unfolding heldIn
+    newer-blocks = newer
+
+    room-left : length (heldIn n xs) < n
+    unfolding heldIn
+    room-left =
+        let l = length-blocks n xs in
+        let f : length (byNumber (blocksOf n xs)) < length (blocksOf n xs) = held-room (blocksOf n xs) (s .whole) (omega arith) in
+        omega arith
+
+    cut : blocksOf n (placed xs (k * 512) (blockOf r)) ≡ set (blocksOf n xs) k (blockOf r)
+    cut = blocks-placed n k xs (blockOf r) (length-block r short) here (s .room)
+
+    pub taken-answer : putNumber (heldIn n xs) n r ≡ 0
+    taken-answer = put-taken (heldIn n xs) n r fit newer room-left
+
+    pub taken-bytes : placed xs (k * 512) (blockOf r) ≡ bytesAfterPut n xs r
+    unfolding bytesAfterPut
+    taken-bytes =
+        ap (λ j. placed xs (j * 512) (blockOf r)) (sym first-is)
+        ∙ sym (ap (λ (m : ℕ). cond (eqb m 0) (placed xs (firstFree (blocksOf n xs) * 512) (blockOf r)) xs) taken-answer)
+
+    pub taken-list : heldIn n (placed xs (k * 512) (blockOf r)) ≡ afterPut (heldIn n xs) n r
+    unfolding heldIn
+    taken-list =
+        let f = first-is in
+        let l = length-blocks n xs in
+        ap byNumber (cut ∙ ap (λ j. set (blocksOf n xs) j (blockOf r)) (sym f))
+        ∙ (put-last (blocksOf n xs) (blockOf r) r (s .whole) (used-is (blockOf r) (written-is r some fits short)) (report-is r some fits short) newer-blocks (omega arith)
+        ∙ sym (after-taken (byNumber (blocksOf n xs)) n r fit newer-blocks room-left))
+
+    pub taken-sound : Sound n (placed xs (k * 512) (blockOf r))
+    taken-sound =
+        let blk = blockOf r in
+        let l = length-block r short in
+        let q = s .room in
+        let within : k * 512 + length blk ≤ length xs = omega arith in
+        let new : hasNumber (numberIn blk) (blocksOf n xs) ≡ false =
+        ap (λ m. hasNumber m (blocksOf n xs)) (number-is r some fits short) ∙ new-number (r .number) (blocksOf n xs) (s .whole) newer-blocks in
+        record {
+          room = omega (arith, length-placed xs (k * 512) blk within);
+          whole = ap intact cut ∙ intact-set (blocksOf n xs) k blk (s .whole) (or-right (allZero blk) (written blk) (written-is r some fits short));
+          apart = ap distinct cut ∙ distinct-set (blocksOf n xs) k blk (s .whole) (s .apart) (inr new);
+        }
+
+-- ---- the oldest report
+
+pub none-is : (rs : List Report) → None ≡ oldestNumber rs → rs ≡ []
+none-is [] e = refl
+none-is (r ∷ rs) e = absurd (let z : _≡_ {A = ℕ} 0 1 = cc in let x : ⊥ = omega arith in x)
+
+-- the oldest of the reports, and the others
+pub record First (rs : List Report) (n : ℕ) : Type 0 where
+  pub report : Report
+  pub others : List Report
+  pub list : rs ≡ report ∷ others
+  pub number : report .number ≡ n
+
+some-is : (rs : List Report) (n : ℕ) → Some n ≡ oldestNumber rs → First rs n
+some-is [] n e = absurd (let z : _≡_ {A = ℕ} 0 1 = cc in let x : ⊥ = omega arith in x)
+some-is (r ∷ rs) n e = record { report = r; others = rs; list = refl; number = cc }
+
+-- k being the place of the block with its number m
+module _ (n : ℕ) (xs : List ℕ) (s : Sound n xs) (m : ℕ) (some : Some m ≡ oldestNumber (heldIn n xs)) (k : ℕ) (place : k ≡ 0 + placeOf m (blocksOf n xs)) where
+  first : First (heldIn n xs) m
+  first = some-is (heldIn n xs) m some
+
+  here : placeOf m (blocksOf n xs) ≡ k
+  here = omega arith
+
+  oldest : Oldest (blocksOf n xs) k (first .report) (first .others)
+  unfolding heldIn
+  oldest =
+      subst (λ j. Oldest (blocksOf n xs) j (first .report) (first .others)) (ap (λ j. placeOf j (blocksOf n xs)) (first .number) ∙ here)
+      (oldest-block (blocksOf n xs) (first .report) (first .others) (s .whole) (s .apart) (first .list))
+
+  within : k < n
+  within = let l = oldest .within in omega (arith, length-blocks n xs)
+
+  pub oldest-room : k * 512 + 512 ≤ length xs
+  oldest-room = let l = within in let q = s .room in omega arith
+
+  pub oldest-written : written (between (k * 512) (k * 512 + 512) xs) ≡ true
+  oldest-written = ap written (sym (block-part n k xs within)) ∙ oldest .used
+
+  oldest-list : heldIn n xs ≡ reportIn (between (k * 512) (k * 512 + 512) xs) ∷ first .others
+  oldest-list = first .list ∙ ap (λ x. x ∷ first .others) (sym (ap reportIn (sym (block-part n k xs within)) ∙ oldest .report))
+
+  -- a read of the oldest report's block is a read of the store
+  pub read-told : (room : ℕ) → readAnswer (reportIn (between (k * 512) (k * 512 + 512) xs) ∷ []) room ≡ readAnswer (heldIn n xs) room
+  read-told room = sym (ap (λ rs. readAnswer rs room) oldest-list)
+
+  pub read-copied : (room : ℕ) → readBody (reportIn (between (k * 512) (k * 512 + 512) xs) ∷ []) room ≡ readBody (heldIn n xs) room
+  read-copied room = sym (ap (λ rs. readBody rs room) oldest-list)
+
+  freed-cut : blocksOf n (placed xs (k * 512) freeBlock) ≡ set (blocksOf n xs) k freeBlock
+  freed-cut = blocks-placed n k xs freeBlock (length-replicate {A = ℕ} 512 0) within (s .room)
+
+  pub freed-bytes : placed xs (k * 512) freeBlock ≡ bytesAfterRemove n xs
+  unfolding freed
+  freed-bytes =
+      ap (λ j. placed xs (j * 512) freeBlock) (sym (ap (λ j. placeOf j (blocksOf n xs)) (first .number) ∙ here)) ∙ sym (ap (freed n xs) (first .list))
+
+  pub freed-list : heldIn n (placed xs (k * 512) freeBlock) ≡ afterRemove (heldIn n xs)
+  unfolding heldIn
+  freed-list = ap byNumber freed-cut ∙ (oldest .rest ∙ sym (ap afterRemove (first .list)))
+
+  pub freed-sound : Sound n (placed xs (k * 512) freeBlock)
+  freed-sound =
+      let l : length freeBlock ≡ 512 = length-replicate {A = ℕ} 512 0 in
+      let q = s .room in
+      let h = oldest-room in
+      let inside : k * 512 + length freeBlock ≤ length xs = omega arith in
+      record {
+        room = omega (arith, length-placed xs (k * 512) freeBlock inside);
+        whole = ap intact freed-cut ∙ intact-set (blocksOf n xs) k freeBlock (s .whole) (or-left (allZero freeBlock) (written freeBlock) (zeros 512));
+        apart = ap distinct freed-cut ∙ distinct-set (blocksOf n xs) k freeBlock (s .whole) (s .apart) (inl (zeros 512));
+      }
