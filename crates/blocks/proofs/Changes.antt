@@ -11,7 +11,7 @@ use Rattle.std.specs.Holes.{between}
 use Rattle.std.specs.declared.option.Option.{Option}
 use Rattle.std.specs.declared.option.Option.the-variants.{Some, None}
 use Rattle.std.proofs.shelf.Lists.{length-replicate}
-use Rattle.std.proofs.shelf.Tests.{cond-true, cond-false, cond-both, and-parts, or-parts, or-left, or-right, le-leb, ltb-false}
+use Rattle.std.proofs.shelf.Tests.{cond-true, cond-false, cond-both, cases-cond, and-from, and-parts, or-parts, or-left, or-right, le-leb, ltb-false}
 use Rattle.octets.specs.Places.{placed}
 use Rattle.octets.proofs.Placing.{length-placed}
 use Rattle.store.specs.Reports.{Report, oldestNumber, newestNumber, unfit, putNumber, afterPut, afterRemove}
@@ -37,6 +37,18 @@ sound-capacity xs =
     cond-both (intact (blocksOf n xs) && distinct (blocksOf n xs)) n 0 (λ m. Sound m xs)
     (λ e. let p = and-parts (intact (blocksOf n xs)) (distinct (blocksOf n xs)) e in record { room = omega arith; whole = p .0; apart = p .1 })
     (λ e. record { room = omega arith; whole = refl; apart = refl })
+
+-- it stays the capacity where sound bytes change into sound bytes
+pub capacity-kept : (n : ℕ) (xs ys : List ℕ) → capacityOf xs ≡ n → 0 < n → length ys ≡ length xs → Sound n ys → capacityOf ys ≡ n
+unfolding capacityOf
+capacity-kept n xs ys e some l s =
+    let m = length xs / 512 in
+    let whole : m ≡ n =
+    elim (cases-cond (intact (blocksOf m xs) && distinct (blocksOf m xs)) m 0 n (sym e)) [ inl q ↦ sym q | inr q ↦ absurd (omega arith) ] in
+    let same : length ys / 512 ≡ n = ap (λ j. j / 512) l ∙ whole in
+    let ok = and-from (intact (blocksOf n ys)) (distinct (blocksOf n ys)) (s .whole) (s .apart) in
+    ap (λ j. cond (intact (blocksOf j ys) && distinct (blocksOf j ys)) j 0) same
+    ∙ cond-true (intact (blocksOf n ys) && distinct (blocksOf n ys)) n 0 ok
 
 -- ---- a put that is refused
 
@@ -123,6 +135,13 @@ module _ (n : ℕ) (xs : List ℕ) (s : Sound n xs) (k : ℕ) (place : k ≡ 0 +
           apart = ap distinct cut ∙ distinct-set (blocksOf n xs) k blk (s .whole) (s .apart) (inr new);
         }
 
+    pub taken-capacity : capacityOf xs ≡ n → capacityOf (placed xs (k * 512) (blockOf r)) ≡ n
+    taken-capacity e =
+        let l = length-block r short in
+        let q = s .room in
+        let within : k * 512 + length (blockOf r) ≤ length xs = omega arith in
+        capacity-kept n xs (placed xs (k * 512) (blockOf r)) e (omega arith) (length-placed xs (k * 512) (blockOf r) within) taken-sound
+
 -- ---- the oldest report
 
 pub none-is : (rs : List Report) → None ≡ oldestNumber rs → rs ≡ []
@@ -196,3 +215,11 @@ module _ (n : ℕ) (xs : List ℕ) (s : Sound n xs) (m : ℕ) (some : Some m ≡
         whole = ap intact freed-cut ∙ intact-set (blocksOf n xs) k freeBlock (s .whole) (or-left (allZero freeBlock) (written freeBlock) (zeros 512));
         apart = ap distinct freed-cut ∙ distinct-set (blocksOf n xs) k freeBlock (s .whole) (s .apart) (inl (zeros 512));
       }
+
+  pub freed-capacity : capacityOf xs ≡ n → capacityOf (placed xs (k * 512) freeBlock) ≡ n
+  freed-capacity e =
+      let l : length freeBlock ≡ 512 = length-replicate {A = ℕ} 512 0 in
+      let q = s .room in
+      let h = within in
+      let inside : k * 512 + length freeBlock ≤ length xs = omega arith in
+      capacity-kept n xs (placed xs (k * 512) freeBlock) e (omega arith) (length-placed xs (k * 512) freeBlock inside) freed-sound

@@ -2,7 +2,7 @@ ghost use mathlib.Core.Path.{_≡_};
 ghost use mathlib.Core.Bool.{true};
 ghost use Prim.Native.Nat.{_*_, _≤_};
 ghost use Rattle.std.specs.Of.Vec.{vec-items, vec-len};
-ghost use Rattle.blocks.specs.Blocks.{blocksOf, intact, distinct};
+ghost use Rattle.blocks.specs.Blocks.{blocksOf, intact, distinct, capacityOf};
 
 pub mod calls;
 
@@ -14,4 +14,5 @@ pub struct BlockStore {
     ghost room: { blocks * 512 ≤ vec-len bytes },
     ghost whole: { intact (blocksOf blocks (vec-items bytes)) ≡ true },
     ghost apart: { distinct (blocksOf blocks (vec-items bytes)) ≡ true },
+    ghost anew: { capacityOf (vec-items bytes) ≡ blocks },
 }

@@ -31,9 +31,11 @@ impl BlockStore {
         BlockStore { bytes, blocks }
     }
 
-    // The bytes, as puts and removals left them.
+    // The bytes, as puts and removals left them. A store made of them is the same again.
     pub fn into_bytes(self) -> Vec<u8>
-        ensures { λ r. ⌜ r ≡ self .bytes ⌝ }
+        ensures memory { λ r. ⌜ r ≡ self .bytes ⌝ }
+        ensures capacity { λ r. ⌜ capacityOf (vec-items r) ≡ self .blocks ⌝ }
+        ensures list { λ r. ⌜ heldIn (capacityOf (vec-items r)) (vec-items r) ≡ reportsOf self ⌝ }
     {
         let BlockStore { bytes, blocks: _ } = self;
         bytes

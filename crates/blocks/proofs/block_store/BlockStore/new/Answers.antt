@@ -13,4 +13,4 @@ ghost-result c =
     let s : Sound (c .sound-blocks-blocks .result) xs = subst (λ (n : ℕ). Sound n xs) (sym e) (sound-capacity xs) in
     let r = s .room in
     let l = c .args .bytes .ok .0 in
-    (omega arith, (s .whole, (s .apart, tt)))
+    (omega arith, (s .whole, (s .apart, (sym e, tt))))

@@ -13,9 +13,9 @@ use Rattle.octets.specs.Places.{placed}
 use Rattle.store.specs.Reports.{Report, newestNumber, unfit}
 use Rattle.store.proofs.Puts.{fit-report, put-full}
 use Rattle.blocks.specs.Layout.{blockOf}
-use Rattle.blocks.specs.Blocks.{blocksOf, intact, distinct, placeOf, heldIn}
+use Rattle.blocks.specs.Blocks.{capacityOf, blocksOf, intact, distinct, placeOf, heldIn}
 use Rattle.blocks.proofs.Held.{positive}
-use Rattle.blocks.proofs.Changes.{Sound, put-unfit, put-stale, refused-list, refused-bytes, full-list, taken-answer, taken-bytes, taken-list, taken-sound}
+use Rattle.blocks.proofs.Changes.{Sound, taken-capacity, put-unfit, put-stale, refused-list, refused-bytes, full-list, taken-answer, taken-bytes, taken-list, taken-sound}
 use Rattle.blocks.proofs.block_store.calls.BlockStoreStore.put.Needs as need
 
 pub returns-then-number-eq0 : need.returns-then-number-eq0
@@ -83,7 +83,7 @@ ghost-self c =
     let here = c .if-place-self .left in
     let t = taken-sound n xs s k place r fit fits newer here in
     let room = st .room in
-    (omega arith, (ap (λ x. intact (blocksOf n x)) items ∙ t .whole, (ap (λ x. distinct (blocksOf n x)) items ∙ t .apart, tt)))
+    (omega arith, (ap (λ x. intact (blocksOf n x)) items ∙ t .whole, (ap (λ x. distinct (blocksOf n x)) items ∙ t .apart, (ap capacityOf items ∙ taken-capacity n xs s k place r fit fits newer here (st .anew), tt))))
 
 pub returns : need.returns
 returns c =

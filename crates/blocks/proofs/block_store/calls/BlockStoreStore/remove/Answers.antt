@@ -8,8 +8,8 @@ use Rattle.std.proofs.shelf.Lists.{refilled-is}
 use Rattle.octets.specs.Places.{placed}
 use Rattle.store.specs.Reports.{oldestNumber, afterRemove}
 use Rattle.blocks.specs.Layout.{freeBlock}
-use Rattle.blocks.specs.Blocks.{blocksOf, intact, distinct, placeOf, heldIn, freed}
-use Rattle.blocks.proofs.Changes.{Sound, none-is, oldest-room, freed-bytes, freed-list, freed-sound}
+use Rattle.blocks.specs.Blocks.{capacityOf, blocksOf, intact, distinct, placeOf, heldIn, freed}
+use Rattle.blocks.proofs.Changes.{Sound, freed-capacity, none-is, oldest-room, freed-bytes, freed-list, freed-sound}
 use Rattle.blocks.proofs.block_store.calls.BlockStoreStore.remove.Needs as need
 
 pub returns-in-rest : need.returns-in-rest
@@ -51,7 +51,7 @@ ghost-self c =
     let items = refilled-is (st .bytes) (c .free-at .last .bytes) l ∙ w in
     let t = freed-sound n xs s m some k place in
     let room = st .room in
-    (omega arith, (ap (λ x. intact (blocksOf n x)) items ∙ t .whole, (ap (λ x. distinct (blocksOf n x)) items ∙ t .apart, tt)))
+    (omega arith, (ap (λ x. intact (blocksOf n x)) items ∙ t .whole, (ap (λ x. distinct (blocksOf n x)) items ∙ t .apart, (ap capacityOf items ∙ freed-capacity n xs s m some k place (st .anew), tt))))
 
 pub returns : need.returns
 returns c =
