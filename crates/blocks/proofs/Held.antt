@@ -55,11 +55,11 @@ pub intact-rest : (b : List ℕ) (bs : List (List ℕ)) → intact (b ∷ bs) �
 unfolding intact
 intact-rest b bs h = and-parts (allZero b || written b) (intact bs) h .1
 
-skip : (b : List ℕ) (bs : List (List ℕ)) → allZero b ≡ true → byNumber (b ∷ bs) ≡ byNumber bs
+pub skip : (b : List ℕ) (bs : List (List ℕ)) → allZero b ≡ true → byNumber (b ∷ bs) ≡ byNumber bs
 unfolding byNumber
 skip b bs z = cond-true (allZero b) _ _ z
 
-keep : (b : List ℕ) (bs : List (List ℕ)) → allZero b ≡ false → byNumber (b ∷ bs) ≡ insertReport (reportIn b) (byNumber bs)
+pub keep : (b : List ℕ) (bs : List (List ℕ)) → allZero b ≡ false → byNumber (b ∷ bs) ≡ insertReport (reportIn b) (byNumber bs)
 unfolding byNumber
 keep b bs z = cond-false (allZero b) _ _ z
 
@@ -200,15 +200,15 @@ has-set n (b ∷ bs) (suc k) blk h e =
     let p = or-parts (eqb (numberIn b) n) (hasNumber n bs) h in
     or-from _ _ (p .0) (has-set n bs k blk (p .1) e)
 
-not-first : (n : ℕ) (b : List ℕ) (bs : List (List ℕ)) → hasNumber n (b ∷ bs) ≡ false → (numberIn b ≡ n → ⊥) × (hasNumber n bs ≡ false)
+pub not-first : (n : ℕ) (b : List ℕ) (bs : List (List ℕ)) → hasNumber n (b ∷ bs) ≡ false → (numberIn b ≡ n → ⊥) × (hasNumber n bs ≡ false)
 unfolding hasNumber
 not-first n b bs h = let p = or-parts (eqb (numberIn b) n) (hasNumber n bs) h in (eqb-false (numberIn b) n (p .0), p .1)
 
-alone : (b : List ℕ) (bs : List (List ℕ)) → allZero b ≡ false → (allZero b || not (hasNumber (numberIn b) bs)) ≡ true → hasNumber (numberIn b) bs ≡ false
+pub alone : (b : List ℕ) (bs : List (List ℕ)) → allZero b ≡ false → (allZero b || not (hasNumber (numberIn b) bs)) ≡ true → hasNumber (numberIn b) bs ≡ false
 alone b bs z h =
     elim (or-cases (allZero b) (not (hasNumber (numberIn b) bs)) h) [ inl y ↦ absurd (both-ways (allZero b) z y) | inr n ↦ not-true (hasNumber (numberIn b) bs) n ]
 
-distinct-parts : (b : List ℕ) (bs : List (List ℕ)) → distinct (b ∷ bs) ≡ true → ((allZero b || not (hasNumber (numberIn b) bs)) ≡ true) × (distinct bs ≡ true)
+pub distinct-parts : (b : List ℕ) (bs : List (List ℕ)) → distinct (b ∷ bs) ≡ true → ((allZero b || not (hasNumber (numberIn b) bs)) ≡ true) × (distinct bs ≡ true)
 unfolding distinct
 distinct-parts b bs d = and-parts (allZero b || not (hasNumber (numberIn b) bs)) (distinct bs) d
 

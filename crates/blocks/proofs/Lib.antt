@@ -4,3 +4,5 @@ pub mod Cutting
 pub mod Held
 pub mod Scanning
 pub mod Changes
+pub mod Backward
+pub mod Rise
