@@ -8,6 +8,7 @@ pub mod calls;
 
 // A store over the first `blocks` blocks of `bytes`: all whole ones, or none if the bytes came damaged.
 // The memory is the caller's: it is handed over and given back.
+#[derive(Drop)]
 pub struct BlockStore {
     bytes: Vec<u8>,
     blocks: usize,

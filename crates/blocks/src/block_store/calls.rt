@@ -37,13 +37,16 @@ impl BlockStore {
         ensures capacity { λ r. ⌜ capacityOf (vec-items r) ≡ self .blocks ⌝ }
         ensures list { λ r. ⌜ heldIn (capacityOf (vec-items r)) (vec-items r) ≡ reportsOf self ⌝ }
     {
-        let BlockStore { bytes, blocks: _ } = self;
-        bytes
+        let BlockStore {
+            bytes: memory,
+            blocks: _,
+        } = self;
+        memory
     }
 }
 
 pub impl Store for BlockStore as BlockStoreStore {
-    ghost records = { λ s. heldIn (s .blocks) (vec-items (s .bytes)) };
+    ghost records = { reportsOf };
 
     ghost limit = { λ s. s .blocks };
 
