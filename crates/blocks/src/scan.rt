@@ -44,7 +44,13 @@ pub(crate) fn place_of(bytes: &[u8], count: usize, start: usize, number: u32) ->
 fn lower_of(a: u32, b: u32) -> u32
     ensures { λ r. ⌜ r ≡ lower a b ⌝ }
 {
-    if a == 0 || (b != 0 && b < a) { b } else { a }
+    if a == 0 {
+        b
+    } else if b == 0 {
+        a
+    } else {
+        a.min(b)
+    }
 }
 
 // The number of the oldest report.
@@ -66,12 +72,9 @@ pub(crate) fn newest_number(bytes: &[u8], count: usize) -> u32
     requires whole { ⌜ intact (blocksOf count (now bytes)) ≡ true ⌝ }
     ensures { λ r. ⌜ r ≡ newestNumber (heldIn count (now (bytes .entry))) ⌝ }
 {
-    let mut most = 0;
+    let mut most: u32 = 0;
     for place in 0..count {
-        let number = number_at(bytes, count, place);
-        if number > most {
-            most = number;
-        }
+        most = most.max(number_at(bytes, count, place));
     }
     most
 }
