@@ -12,6 +12,7 @@ use Rattle.std.specs.declared.option.Option.{Option}
 use Rattle.std.specs.declared.option.Option.the-variants.{Some, None}
 use Rattle.std.proofs.shelf.Lists.{length-replicate}
 use Rattle.std.proofs.shelf.Tests.{cond-true, cond-false, cond-both, cases-cond, and-from, and-parts, or-parts, or-left, or-right, le-leb, ltb-false}
+use Rattle.std.specs.Of.Vec.{vec-items}
 use Rattle.octets.specs.Places.{placed}
 use Rattle.octets.proofs.Placing.{length-placed}
 use Rattle.store.specs.Reports.{Report, oldestNumber, newestNumber, unfit, putNumber, afterPut, afterRemove}
@@ -19,36 +20,46 @@ use Rattle.store.specs.Answers.{readAnswer, readBody}
 use Rattle.store.proofs.Puts.{fit-report, put-taken, after-taken, put-full, after-full}
 use Rattle.blocks.specs.Layout.{allZero, written, numberIn, reportIn, blockOf, freeBlock}
 use Rattle.blocks.specs.Blocks.{blocksOf, byNumber, intact, hasNumber, distinct, placeOf, firstFree, capacityOf, heldIn, bytesAfterPut, bytesAfterRemove, freed}
+use Rattle.blocks.specs.declared.block_store.BlockStore.{BlockStore}
 use Rattle.blocks.proofs.Layouts.{zeros, length-block, number-is, written-is, report-is}
 use Rattle.blocks.proofs.Cutting.{length-blocks, block-part, blocks-placed}
 use Rattle.blocks.proofs.Held.{Oldest, oldest-block, put-last, new-number, intact-set, distinct-set, first-free-is, held-room, held-full, used-is}
 
--- n blocks lie within the bytes, are intact, and differ in their numbers
+-- n blocks lie within the bytes, are intact, differ in their numbers, and n is the capacity
 pub record Sound (n : ℕ) (xs : List ℕ) : Type 0 where
   pub room : n * 512 ≤ length xs
   pub whole : intact (blocksOf n xs) ≡ true
   pub apart : distinct (blocksOf n xs) ≡ true
+  pub anew : capacityOf xs ≡ n
 
 -- as many blocks as the capacity are sound
 pub sound-capacity : (xs : List ℕ) → Sound (capacityOf xs) xs
 unfolding capacityOf blocksOf intact distinct
 sound-capacity xs =
     let n = length xs / 512 in
-    cond-both (intact (blocksOf n xs) && distinct (blocksOf n xs)) n 0 (λ m. Sound m xs)
-    (λ e. let p = and-parts (intact (blocksOf n xs)) (distinct (blocksOf n xs)) e in record { room = omega arith; whole = p .0; apart = p .1 })
-    (λ e. record { room = omega arith; whole = refl; apart = refl })
+    let t = intact (blocksOf n xs) && distinct (blocksOf n xs) in
+    cond-both t n 0 (λ m. Sound m xs)
+    (λ e. let p = and-parts (intact (blocksOf n xs)) (distinct (blocksOf n xs)) e in record { room = omega arith; whole = p .0; apart = p .1; anew = cond-true t n 0 e })
+    (λ e. record { room = omega arith; whole = refl; apart = refl; anew = cond-false t n 0 e })
 
--- it stays the capacity where sound bytes change into sound bytes
-pub capacity-kept : (n : ℕ) (xs ys : List ℕ) → capacityOf xs ≡ n → 0 < n → length ys ≡ length xs → Sound n ys → capacityOf ys ≡ n
+-- bytes stay sound where they change within a length into intact blocks with distinct numbers
+sound-kept : (n : ℕ) (xs ys : List ℕ) → Sound n xs → 0 < n → length ys ≡ length xs → intact (blocksOf n ys) ≡ true → distinct (blocksOf n ys) ≡ true → Sound n ys
 unfolding capacityOf
-capacity-kept n xs ys e some l s =
+sound-kept n xs ys s some l w d =
     let m = length xs / 512 in
+    let r = s .room in
     let whole : m ≡ n =
-    elim (cases-cond (intact (blocksOf m xs) && distinct (blocksOf m xs)) m 0 n (sym e)) [ inl q ↦ sym q | inr q ↦ absurd (omega arith) ] in
+    elim (cases-cond (intact (blocksOf m xs) && distinct (blocksOf m xs)) m 0 n (sym (s .anew))) [ inl q ↦ sym q | inr q ↦ absurd (omega arith) ] in
     let same : length ys / 512 ≡ n = ap (λ j. j / 512) l ∙ whole in
-    let ok = and-from (intact (blocksOf n ys)) (distinct (blocksOf n ys)) (s .whole) (s .apart) in
-    ap (λ j. cond (intact (blocksOf j ys) && distinct (blocksOf j ys)) j 0) same
-    ∙ cond-true (intact (blocksOf n ys) && distinct (blocksOf n ys)) n 0 ok
+    let ok = and-from (intact (blocksOf n ys)) (distinct (blocksOf n ys)) w d in
+    record {
+      room = omega arith;
+      whole = w;
+      apart = d;
+      anew =
+          ap (λ j. cond (intact (blocksOf j ys) && distinct (blocksOf j ys)) j 0) same
+          ∙ cond-true (intact (blocksOf n ys) && distinct (blocksOf n ys)) n 0 ok;
+    }
 
 -- ---- a put that is refused
 
@@ -103,16 +114,16 @@ module _ (n : ℕ) (xs : List ℕ) (s : Sound n xs) (k : ℕ) (place : k ≡ 0 +
     cut : blocksOf n (placed xs (k * 512) (blockOf r)) ≡ set (blocksOf n xs) k (blockOf r)
     cut = blocks-placed n k xs (blockOf r) (length-block r short) here (s .room)
 
-    pub taken-answer : putNumber (heldIn n xs) n r ≡ 0
+    taken-answer : putNumber (heldIn n xs) n r ≡ 0
     taken-answer = put-taken (heldIn n xs) n r fit newer room-left
 
-    pub taken-bytes : placed xs (k * 512) (blockOf r) ≡ bytesAfterPut n xs r
+    taken-bytes : placed xs (k * 512) (blockOf r) ≡ bytesAfterPut n xs r
     unfolding bytesAfterPut
     taken-bytes =
         ap (λ j. placed xs (j * 512) (blockOf r)) (sym first-is)
         ∙ sym (ap (λ (m : ℕ). cond (eqb m 0) (placed xs (firstFree (blocksOf n xs) * 512) (blockOf r)) xs) taken-answer)
 
-    pub taken-list : heldIn n (placed xs (k * 512) (blockOf r)) ≡ afterPut (heldIn n xs) n r
+    taken-list : heldIn n (placed xs (k * 512) (blockOf r)) ≡ afterPut (heldIn n xs) n r
     unfolding heldIn
     taken-list =
         let f = first-is in
@@ -121,7 +132,7 @@ module _ (n : ℕ) (xs : List ℕ) (s : Sound n xs) (k : ℕ) (place : k ≡ 0 +
         ∙ (put-last (blocksOf n xs) (blockOf r) r (s .whole) (used-is (blockOf r) (written-is r some fits short)) (report-is r some fits short) newer-blocks (omega arith)
         ∙ sym (after-taken (byNumber (blocksOf n xs)) n r fit newer-blocks room-left))
 
-    pub taken-sound : Sound n (placed xs (k * 512) (blockOf r))
+    taken-sound : Sound n (placed xs (k * 512) (blockOf r))
     taken-sound =
         let blk = blockOf r in
         let l = length-block r short in
@@ -129,18 +140,30 @@ module _ (n : ℕ) (xs : List ℕ) (s : Sound n xs) (k : ℕ) (place : k ≡ 0 +
         let within : k * 512 + length blk ≤ length xs = omega arith in
         let new : hasNumber (numberIn blk) (blocksOf n xs) ≡ false =
         ap (λ m. hasNumber m (blocksOf n xs)) (number-is r some fits short) ∙ new-number (r .number) (blocksOf n xs) (s .whole) newer-blocks in
-        record {
-          room = omega (arith, length-placed xs (k * 512) blk within);
-          whole = ap intact cut ∙ intact-set (blocksOf n xs) k blk (s .whole) (or-right (allZero blk) (written blk) (written-is r some fits short));
-          apart = ap distinct cut ∙ distinct-set (blocksOf n xs) k blk (s .whole) (s .apart) (inr new);
-        }
+        sound-kept n xs (placed xs (k * 512) blk) s (omega arith) (length-placed xs (k * 512) blk within)
+        (ap intact cut ∙ intact-set (blocksOf n xs) k blk (s .whole) (or-right (allZero blk) (written blk) (written-is r some fits short)))
+        (ap distinct cut ∙ distinct-set (blocksOf n xs) k blk (s .whole) (s .apart) (inr new))
 
-    pub taken-capacity : capacityOf xs ≡ n → capacityOf (placed xs (k * 512) (blockOf r)) ≡ n
-    taken-capacity e =
-        let l = length-block r short in
-        let q = s .room in
-        let within : k * 512 + length (blockOf r) ≤ length xs = omega arith in
-        capacity-kept n xs (placed xs (k * 512) (blockOf r)) e (omega arith) (length-placed xs (k * 512) (blockOf r) within) taken-sound
+-- what a put that is taken leaves, ys being the bytes after it
+pub record Taken (n : ℕ) (xs ys : List ℕ) (r : Report) : Type 0 where
+  pub answer : putNumber (heldIn n xs) n r ≡ 0
+  pub list : heldIn n ys ≡ afterPut (heldIn n xs) n r
+  pub bytes : ys ≡ bytesAfterPut n xs r
+  pub sound : Sound n ys
+
+-- from what the calls within it say: `seen` and `lent` are the store's bytes
+pub taken : (n : ℕ) (xs seen lent ys : List ℕ) (r : Report) (newest k : ℕ) → Sound n xs → seen ≡ xs → lent ≡ xs → unfit r ≡ false → r .number < 2 ^ 32
+    → newest ≡ newestNumber (heldIn n seen) → newest < r .number → k ≡ 0 + placeOf 0 (blocksOf n seen) → k < n → ys ≡ placed lent (k * 512) (blockOf r) → Taken n xs ys r
+taken n xs seen lent ys r newest k s v w fit fits e newer place here after =
+    let top : newestNumber (heldIn n xs) < r .number = (let x = e ∙ ap (λ x. newestNumber (heldIn n x)) v in omega arith) in
+    let at = place ∙ ap (λ x. 0 + placeOf 0 (blocksOf n x)) v in
+    let z : ys ≡ placed xs (k * 512) (blockOf r) = after ∙ ap (λ x. placed x (k * 512) (blockOf r)) w in
+    record {
+      answer = taken-answer n xs s k at r fit fits top here;
+      list = ap (heldIn n) z ∙ taken-list n xs s k at r fit fits top here;
+      bytes = z ∙ taken-bytes n xs s k at r fit fits top here;
+      sound = subst (λ x. Sound n x) (sym z) (taken-sound n xs s k at r fit fits top here);
+    }
 
 -- ---- the oldest report
 
@@ -176,50 +199,69 @@ module _ (n : ℕ) (xs : List ℕ) (s : Sound n xs) (m : ℕ) (some : Some m ≡
   within : k < n
   within = let l = oldest .within in omega (arith, length-blocks n xs)
 
-  pub oldest-room : k * 512 + 512 ≤ length xs
+  oldest-room : k * 512 + 512 ≤ length xs
   oldest-room = let l = within in let q = s .room in omega arith
 
-  pub oldest-written : written (between (k * 512) (k * 512 + 512) xs) ≡ true
+  oldest-written : written (between (k * 512) (k * 512 + 512) xs) ≡ true
   oldest-written = ap written (sym (block-part n k xs within)) ∙ oldest .used
 
   oldest-list : heldIn n xs ≡ reportIn (between (k * 512) (k * 512 + 512) xs) ∷ first .others
   oldest-list = first .list ∙ ap (λ x. x ∷ first .others) (sym (ap reportIn (sym (block-part n k xs within)) ∙ oldest .report))
 
   -- a read of the oldest report's block is a read of the store
-  pub read-told : (room : ℕ) → readAnswer (reportIn (between (k * 512) (k * 512 + 512) xs) ∷ []) room ≡ readAnswer (heldIn n xs) room
+  read-told : (room : ℕ) → readAnswer (reportIn (between (k * 512) (k * 512 + 512) xs) ∷ []) room ≡ readAnswer (heldIn n xs) room
   read-told room = sym (ap (λ rs. readAnswer rs room) oldest-list)
 
-  pub read-copied : (room : ℕ) → readBody (reportIn (between (k * 512) (k * 512 + 512) xs) ∷ []) room ≡ readBody (heldIn n xs) room
+  read-copied : (room : ℕ) → readBody (reportIn (between (k * 512) (k * 512 + 512) xs) ∷ []) room ≡ readBody (heldIn n xs) room
   read-copied room = sym (ap (λ rs. readBody rs room) oldest-list)
 
   freed-cut : blocksOf n (placed xs (k * 512) freeBlock) ≡ set (blocksOf n xs) k freeBlock
   freed-cut = blocks-placed n k xs freeBlock (length-replicate {A = ℕ} 512 0) within (s .room)
 
-  pub freed-bytes : placed xs (k * 512) freeBlock ≡ bytesAfterRemove n xs
+  freed-bytes : placed xs (k * 512) freeBlock ≡ bytesAfterRemove n xs
   unfolding freed
   freed-bytes =
       ap (λ j. placed xs (j * 512) freeBlock) (sym (ap (λ j. placeOf j (blocksOf n xs)) (first .number) ∙ here)) ∙ sym (ap (freed n xs) (first .list))
 
-  pub freed-list : heldIn n (placed xs (k * 512) freeBlock) ≡ afterRemove (heldIn n xs)
+  freed-list : heldIn n (placed xs (k * 512) freeBlock) ≡ afterRemove (heldIn n xs)
   unfolding heldIn
   freed-list = ap byNumber freed-cut ∙ (oldest .rest ∙ sym (ap afterRemove (first .list)))
 
-  pub freed-sound : Sound n (placed xs (k * 512) freeBlock)
+  freed-sound : Sound n (placed xs (k * 512) freeBlock)
   freed-sound =
       let l : length freeBlock ≡ 512 = length-replicate {A = ℕ} 512 0 in
-      let q = s .room in
-      let h = oldest-room in
-      let inside : k * 512 + length freeBlock ≤ length xs = omega arith in
-      record {
-        room = omega (arith, length-placed xs (k * 512) freeBlock inside);
-        whole = ap intact freed-cut ∙ intact-set (blocksOf n xs) k freeBlock (s .whole) (or-left (allZero freeBlock) (written freeBlock) (zeros 512));
-        apart = ap distinct freed-cut ∙ distinct-set (blocksOf n xs) k freeBlock (s .whole) (s .apart) (inl (zeros 512));
-      }
-
-  pub freed-capacity : capacityOf xs ≡ n → capacityOf (placed xs (k * 512) freeBlock) ≡ n
-  freed-capacity e =
-      let l : length freeBlock ≡ 512 = length-replicate {A = ℕ} 512 0 in
-      let q = s .room in
       let h = within in
+      let q = oldest-room in
       let inside : k * 512 + length freeBlock ≤ length xs = omega arith in
-      capacity-kept n xs (placed xs (k * 512) freeBlock) e (omega arith) (length-placed xs (k * 512) freeBlock inside) freed-sound
+      sound-kept n xs (placed xs (k * 512) freeBlock) s (omega arith) (length-placed xs (k * 512) freeBlock inside)
+      (ap intact freed-cut ∙ intact-set (blocksOf n xs) k freeBlock (s .whole) (or-left (allZero freeBlock) (written freeBlock) (zeros 512)))
+      (ap distinct freed-cut ∙ distinct-set (blocksOf n xs) k freeBlock (s .whole) (s .apart) (inl (zeros 512)))
+
+-- the oldest report's block, at place k
+pub record Found (n : ℕ) (xs : List ℕ) (k : ℕ) : Type 0 where
+  pub room : k * 512 + 512 ≤ length xs
+  pub used : written (between (k * 512) (k * 512 + 512) xs) ≡ true
+  pub told : (space : ℕ) → readAnswer (reportIn (between (k * 512) (k * 512 + 512) xs) ∷ []) space ≡ readAnswer (heldIn n xs) space
+  pub copied : (space : ℕ) → readBody (reportIn (between (k * 512) (k * 512 + 512) xs) ∷ []) space ≡ readBody (heldIn n xs) space
+  pub list : heldIn n (placed xs (k * 512) freeBlock) ≡ afterRemove (heldIn n xs)
+  pub bytes : placed xs (k * 512) freeBlock ≡ bytesAfterRemove n xs
+  pub sound : Sound n (placed xs (k * 512) freeBlock)
+
+-- from what the calls within a read or a removal say: `seen` is the store's bytes
+pub found : (n : ℕ) (xs seen : List ℕ) (m k : ℕ) → Sound n xs → seen ≡ xs → Some m ≡ oldestNumber (heldIn n seen) → k ≡ 0 + placeOf m (blocksOf n seen) → Found n xs k
+found n xs seen m k s v some place =
+    let e : Some m ≡ oldestNumber (heldIn n xs) = some ∙ ap (λ x. oldestNumber (heldIn n x)) v in
+    let at = place ∙ ap (λ x. 0 + placeOf m (blocksOf n x)) v in
+    record {
+      room = oldest-room n xs s m e k at;
+      used = oldest-written n xs s m e k at;
+      told = read-told n xs s m e k at;
+      copied = read-copied n xs s m e k at;
+      list = freed-list n xs s m e k at;
+      bytes = freed-bytes n xs s m e k at;
+      sound = freed-sound n xs s m e k at;
+    }
+
+-- a store's own bytes are sound
+pub sound-store : (s : BlockStore) → Sound (s .blocks) (vec-items (s .bytes))
+sound-store s = let r = s .room in let l = s .bytes .ok .0 in record { room = omega arith; whole = s .whole; apart = s .apart; anew = s .anew }

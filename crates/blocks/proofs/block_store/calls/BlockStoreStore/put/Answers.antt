@@ -15,7 +15,7 @@ use Rattle.store.proofs.Puts.{fit-report, put-full}
 use Rattle.blocks.specs.Layout.{blockOf}
 use Rattle.blocks.specs.Blocks.{capacityOf, blocksOf, intact, distinct, placeOf, heldIn}
 use Rattle.blocks.proofs.Held.{positive}
-use Rattle.blocks.proofs.Changes.{Sound, taken-capacity, put-unfit, put-stale, refused-list, refused-bytes, full-list, taken-answer, taken-bytes, taken-list, taken-sound}
+use Rattle.blocks.proofs.Changes.{Sound, Taken, taken, sound-store, put-unfit, put-stale, refused-list, refused-bytes, full-list}
 use Rattle.blocks.proofs.block_store.calls.BlockStoreStore.put.Needs as need
 
 pub returns-then-number-eq0 : need.returns-then-number-eq0
@@ -37,10 +37,8 @@ returns-then-number-newest-number c =
     let n = st .blocks in
     let xs = vec-items (st .bytes) in
     let r : Report = record { number = c .args .number; stream = c .args .stream; function = c .args .function; body = c .args .body .now } in
-    let v = c .as-slice-bytes .ensures .value in
-    let newest : c .newest-number .result ≡ newestNumber (heldIn n xs) = c .newest-number .ensures ∙ ap (λ x. newestNumber (heldIn n x)) v in
-    let some : 0 < r .number = positive (r .number) (c .if-number-eq0 .left) in
-    let fit : unfit r ≡ false = fit-report r some (c .if-body-gt-BODY .left) in
+    let fit = fit-report r (positive (r .number) (c .if-number-eq0 .left)) (c .if-body-gt-BODY .left) in
+    let newest = c .newest-number .ensures ∙ ap (λ x. newestNumber (heldIn n x)) (c .as-slice-bytes .ensures .value) in
     let a = put-stale (heldIn n xs) n r fit (omega (arith, c .if-number-newest-number .taken)) in
     record { answer = sym a; list = refused-list n xs r 2 a refl; same = refl; bytes = refused-bytes n xs r 2 a refl }
 
@@ -50,15 +48,12 @@ returns-then-place-self c =
     let n = st .blocks in
     let xs = vec-items (st .bytes) in
     let r : Report = record { number = c .args .number; stream = c .args .stream; function = c .args .function; body = c .args .body .now } in
+    let fit = fit-report r (positive (r .number) (c .if-number-eq0 .left)) (c .if-body-gt-BODY .left) in
     let v = c .as-slice-bytes .ensures .value in
-    let newest : c .newest-number .result ≡ newestNumber (heldIn n xs) = c .newest-number .ensures ∙ ap (λ x. newestNumber (heldIn n x)) v in
-    let some : 0 < r .number = positive (r .number) (c .if-number-eq0 .left) in
-    let fit : unfit r ≡ false = fit-report r some (c .if-body-gt-BODY .left) in
-    let s : Sound n xs = (let room = st .room in let l = st .bytes .ok .0 in record { room = omega arith; whole = st .whole; apart = st .apart }) in
-    let k = c .place-of-place .result in
-    let place : k ≡ 0 + placeOf 0 (blocksOf n xs) = c .place-of-place .ensures ∙ ap (λ x. 0 + placeOf 0 (blocksOf n x)) v in
-    let newer : newestNumber (heldIn n xs) < r .number = omega (arith, c .if-number-newest-number .left) in
-    let a = put-full (heldIn n xs) n r fit newer (full-list n xs s k place (c .if-place-self .taken)) in
+    let newest = c .newest-number .ensures ∙ ap (λ x. newestNumber (heldIn n x)) v in
+    let place = c .place-of-place .ensures ∙ ap (λ x. 0 + placeOf 0 (blocksOf n x)) v in
+    let full = full-list n xs (sound-store st) (c .place-of-place .result) place (c .if-place-self .taken) in
+    let a = put-full (heldIn n xs) n r fit (omega (arith, c .if-number-newest-number .left)) full in
     record { answer = sym a; list = refused-list n xs r 1 a refl; same = refl; bytes = refused-bytes n xs r 1 a refl }
 
 pub ghost-self : need.ghost-self
@@ -67,23 +62,15 @@ ghost-self c =
     let n = st .blocks in
     let xs = vec-items (st .bytes) in
     let r : Report = record { number = c .args .number; stream = c .args .stream; function = c .args .function; body = c .args .body .now } in
-    let v = c .as-slice-bytes .ensures .value in
-    let newest : c .newest-number .result ≡ newestNumber (heldIn n xs) = c .newest-number .ensures ∙ ap (λ x. newestNumber (heldIn n x)) v in
-    let some : 0 < r .number = positive (r .number) (c .if-number-eq0 .left) in
-    let fit : unfit r ≡ false = fit-report r some (c .if-body-gt-BODY .left) in
-    let s : Sound n xs = (let room = st .room in let l = st .bytes .ok .0 in record { room = omega arith; whole = st .whole; apart = st .apart }) in
-    let k = c .place-of-place .result in
-    let place : k ≡ 0 + placeOf 0 (blocksOf n xs) = c .place-of-place .ensures ∙ ap (λ x. 0 + placeOf 0 (blocksOf n x)) v in
-    let newer : newestNumber (heldIn n xs) < r .number = omega (arith, c .if-number-newest-number .left) in
-    let w : c .write-at .last .bytes ≡ placed xs (k * 512) (blockOf r) =
-    c .write-at .ensures ∙ ap (λ x. placed x (k * 512) (blockOf r)) (c .deref-mut .ensures .value) in
-    let l : length (c .write-at .last .bytes) ≡ vec-len (st .bytes) = omega arith in
-    let items = refilled-is (st .bytes) (c .write-at .last .bytes) l ∙ w in
-    let fits : r .number < 2 ^ 32 = omega arith in
-    let here = c .if-place-self .left in
-    let t = taken-sound n xs s k place r fit fits newer here in
-    let room = st .room in
-    (omega arith, (ap (λ x. intact (blocksOf n x)) items ∙ t .whole, (ap (λ x. distinct (blocksOf n x)) items ∙ t .apart, (ap capacityOf items ∙ taken-capacity n xs s k place r fit fits newer here (st .anew), tt))))
+    let fit = fit-report r (positive (r .number) (c .if-number-eq0 .left)) (c .if-body-gt-BODY .left) in
+    let t : Taken n xs (c .write-at .last .bytes) r =
+    taken n xs (c .as-slice-bytes .result .now) (c .deref-mut .result .now) (c .write-at .last .bytes) r (c .newest-number .result) (c .place-of-place .result)
+    (sound-store st) (c .as-slice-bytes .ensures .value) (c .deref-mut .ensures .value) fit (omega arith)
+    (c .newest-number .ensures) (c .if-number-newest-number .left) (c .place-of-place .ensures) (c .if-place-self .left) (c .write-at .ensures) in
+    let items = refilled-is (st .bytes) (c .write-at .last .bytes) (omega arith) in
+    let s = t .sound in
+    let room = s .room in
+    (omega arith, (ap (λ x. intact (blocksOf n x)) items ∙ s .whole, (ap (λ x. distinct (blocksOf n x)) items ∙ s .apart, (ap capacityOf items ∙ s .anew, tt))))
 
 pub returns : need.returns
 returns c =
@@ -91,23 +78,10 @@ returns c =
     let n = st .blocks in
     let xs = vec-items (st .bytes) in
     let r : Report = record { number = c .args .number; stream = c .args .stream; function = c .args .function; body = c .args .body .now } in
-    let v = c .as-slice-bytes .ensures .value in
-    let newest : c .newest-number .result ≡ newestNumber (heldIn n xs) = c .newest-number .ensures ∙ ap (λ x. newestNumber (heldIn n x)) v in
-    let some : 0 < r .number = positive (r .number) (c .if-number-eq0 .left) in
-    let fit : unfit r ≡ false = fit-report r some (c .if-body-gt-BODY .left) in
-    let s : Sound n xs = (let room = st .room in let l = st .bytes .ok .0 in record { room = omega arith; whole = st .whole; apart = st .apart }) in
-    let k = c .place-of-place .result in
-    let place : k ≡ 0 + placeOf 0 (blocksOf n xs) = c .place-of-place .ensures ∙ ap (λ x. 0 + placeOf 0 (blocksOf n x)) v in
-    let newer : newestNumber (heldIn n xs) < r .number = omega (arith, c .if-number-newest-number .left) in
-    let w : c .write-at .last .bytes ≡ placed xs (k * 512) (blockOf r) =
-    c .write-at .ensures ∙ ap (λ x. placed x (k * 512) (blockOf r)) (c .deref-mut .ensures .value) in
-    let l : length (c .write-at .last .bytes) ≡ vec-len (st .bytes) = omega arith in
-    let items = refilled-is (st .bytes) (c .write-at .last .bytes) l ∙ w in
-    let fits : r .number < 2 ^ 32 = omega arith in
-    let here = c .if-place-self .left in
-    record {
-      answer = sym (taken-answer n xs s k place r fit fits newer here);
-      list = ap (heldIn n) items ∙ taken-list n xs s k place r fit fits newer here;
-      same = refl;
-      bytes = items ∙ taken-bytes n xs s k place r fit fits newer here;
-    }
+    let fit = fit-report r (positive (r .number) (c .if-number-eq0 .left)) (c .if-body-gt-BODY .left) in
+    let t : Taken n xs (c .write-at .last .bytes) r =
+    taken n xs (c .as-slice-bytes .result .now) (c .deref-mut .result .now) (c .write-at .last .bytes) r (c .newest-number .result) (c .place-of-place .result)
+    (sound-store st) (c .as-slice-bytes .ensures .value) (c .deref-mut .ensures .value) fit (omega arith)
+    (c .newest-number .ensures) (c .if-number-newest-number .left) (c .place-of-place .ensures) (c .if-place-self .left) (c .write-at .ensures) in
+    let items = refilled-is (st .bytes) (c .write-at .last .bytes) (omega arith) in
+    record { answer = sym (t .answer); list = ap (heldIn n) items ∙ t .list; same = refl; bytes = items ∙ t .bytes }

@@ -4,12 +4,13 @@ use Prim.Native.Nat.{ℕ, _+_, _-_, _*_, _≤_, _<_}
 use native.Mathlib.Omega.{arith}
 use lib.ListN.{length, take, drop}
 use Rattle.std.specs.Of.Vec.{vec-items, vec-len}
+use Rattle.std.specs.Changed.{refilled}
 use Rattle.std.proofs.shelf.Lists.{refilled-is}
 use Rattle.octets.specs.Places.{placed}
 use Rattle.store.specs.Reports.{oldestNumber, afterRemove}
 use Rattle.blocks.specs.Layout.{freeBlock}
 use Rattle.blocks.specs.Blocks.{capacityOf, blocksOf, intact, distinct, placeOf, heldIn, freed}
-use Rattle.blocks.proofs.Changes.{Sound, freed-capacity, none-is, oldest-room, freed-bytes, freed-list, freed-sound}
+use Rattle.blocks.proofs.Changes.{Found, none-is, found, sound-store}
 use Rattle.blocks.proofs.block_store.calls.BlockStoreStore.remove.Needs as need
 
 pub returns-in-rest : need.returns-in-rest
@@ -26,13 +27,10 @@ free-at-requires c κs =
     let st = c .args .self .now in
     let n = st .blocks in
     let xs = vec-items (st .bytes) in
-    let s : Sound n xs = (let room = st .room in let l = st .bytes .ok .0 in record { room = omega arith; whole = st .whole; apart = st .apart }) in
-    let v = c .as-slice-bytes .ensures .value in
-    let some = c .in-Some .ensures tt ∙ ap (λ x. oldestNumber (heldIn n x)) v in
-    let m = c .in-Some .number in
     let k = c .place-of-place .result in
-    let place : k ≡ 0 + placeOf m (blocksOf n xs) = c .place-of-place .ensures ∙ ap (λ x. 0 + placeOf m (blocksOf n x)) v in
-    let h = oldest-room n xs s m some k place in
+    let f : Found n xs k =
+    found n xs (c .as-slice-bytes .result .now) (c .in-Some .number) k (sound-store st) (c .as-slice-bytes .ensures .value) (c .in-Some .ensures tt) (c .place-of-place .ensures) in
+    let h = f .room in
     omega (arith, ap length (c .deref-mut .ensures .value))
 
 pub ghost-self : need.ghost-self
@@ -40,35 +38,23 @@ ghost-self c =
     let st = c .args .self .now in
     let n = st .blocks in
     let xs = vec-items (st .bytes) in
-    let s : Sound n xs = (let room = st .room in let l = st .bytes .ok .0 in record { room = omega arith; whole = st .whole; apart = st .apart }) in
-    let v = c .as-slice-bytes .ensures .value in
-    let some = c .in-Some .ensures tt ∙ ap (λ x. oldestNumber (heldIn n x)) v in
-    let m = c .in-Some .number in
     let k = c .place-of-place .result in
-    let place : k ≡ 0 + placeOf m (blocksOf n xs) = c .place-of-place .ensures ∙ ap (λ x. 0 + placeOf m (blocksOf n x)) v in
-    let w : c .free-at .last .bytes ≡ placed xs (k * 512) freeBlock = c .free-at .ensures ∙ ap (λ x. placed x (k * 512) freeBlock) (c .deref-mut .ensures .value) in
-    let l : length (c .free-at .last .bytes) ≡ vec-len (st .bytes) = omega arith in
-    let items = refilled-is (st .bytes) (c .free-at .last .bytes) l ∙ w in
-    let t = freed-sound n xs s m some k place in
+    let f : Found n xs k =
+    found n xs (c .as-slice-bytes .result .now) (c .in-Some .number) k (sound-store st) (c .as-slice-bytes .ensures .value) (c .in-Some .ensures tt) (c .place-of-place .ensures) in
+    let after : vec-items (refilled (st .bytes) (c .free-at .last .bytes)) ≡ placed xs (k * 512) freeBlock =
+    refilled-is (st .bytes) (c .free-at .last .bytes) (omega arith) ∙ (c .free-at .ensures ∙ ap (λ x. placed x (k * 512) freeBlock) (c .deref-mut .ensures .value)) in
+    let s = f .sound in
     let room = st .room in
-    (omega arith, (ap (λ x. intact (blocksOf n x)) items ∙ t .whole, (ap (λ x. distinct (blocksOf n x)) items ∙ t .apart, (ap capacityOf items ∙ freed-capacity n xs s m some k place (st .anew), tt))))
+    (omega arith, (ap (λ x. intact (blocksOf n x)) after ∙ s .whole, (ap (λ x. distinct (blocksOf n x)) after ∙ s .apart, (ap capacityOf after ∙ s .anew, tt))))
 
 pub returns : need.returns
 returns c =
     let st = c .args .self .now in
     let n = st .blocks in
     let xs = vec-items (st .bytes) in
-    let s : Sound n xs = (let room = st .room in let l = st .bytes .ok .0 in record { room = omega arith; whole = st .whole; apart = st .apart }) in
-    let v = c .as-slice-bytes .ensures .value in
-    let some = c .in-Some .ensures tt ∙ ap (λ x. oldestNumber (heldIn n x)) v in
-    let m = c .in-Some .number in
     let k = c .place-of-place .result in
-    let place : k ≡ 0 + placeOf m (blocksOf n xs) = c .place-of-place .ensures ∙ ap (λ x. 0 + placeOf m (blocksOf n x)) v in
-    let w : c .free-at .last .bytes ≡ placed xs (k * 512) freeBlock = c .free-at .ensures ∙ ap (λ x. placed x (k * 512) freeBlock) (c .deref-mut .ensures .value) in
-    let l : length (c .free-at .last .bytes) ≡ vec-len (st .bytes) = omega arith in
-    let items = refilled-is (st .bytes) (c .free-at .last .bytes) l ∙ w in
-    record {
-      list = ap (heldIn n) items ∙ freed-list n xs s m some k place;
-      same = refl;
-      bytes = items ∙ freed-bytes n xs s m some k place;
-    }
+    let f : Found n xs k =
+    found n xs (c .as-slice-bytes .result .now) (c .in-Some .number) k (sound-store st) (c .as-slice-bytes .ensures .value) (c .in-Some .ensures tt) (c .place-of-place .ensures) in
+    let after : vec-items (refilled (st .bytes) (c .free-at .last .bytes)) ≡ placed xs (k * 512) freeBlock =
+    refilled-is (st .bytes) (c .free-at .last .bytes) (omega arith) ∙ (c .free-at .ensures ∙ ap (λ x. placed x (k * 512) freeBlock) (c .deref-mut .ensures .value)) in
+    record { list = ap (heldIn n) after ∙ f .list; same = refl; bytes = after ∙ f .bytes }
