@@ -3,7 +3,7 @@ use std::alloc::AllocError;
 use std::alloc::Global;
 
 // The block with its check, whatever stands before that.
-pub fn sealed(mut block: [u8; 512]) -> [u8; 512] {
+pub(crate) fn sealed(mut block: [u8; 512]) -> [u8; 512] {
     let mut check: u16 = 0;
     for b in &block[0..510] {
         check = check.wrapping_add(*b as u16);
@@ -15,7 +15,7 @@ pub fn sealed(mut block: [u8; 512]) -> [u8; 512] {
 }
 
 // The block of an S6,F11 report with this number and a body of three bytes, one of them the number.
-pub fn block(number: u8) -> [u8; 512] {
+pub(crate) fn block(number: u8) -> [u8; 512] {
     let mut block = [0; 512];
     block[3] = number;
     block[4] = 6;
@@ -28,7 +28,7 @@ pub fn block(number: u8) -> [u8; 512] {
 }
 
 // Two blocks, one after the other.
-pub fn pair(heap: Global, first: [u8; 512], second: [u8; 512]) -> Result<Vec<u8>, AllocError> {
+pub(crate) fn pair(heap: Global, first: [u8; 512], second: [u8; 512]) -> Result<Vec<u8>, AllocError> {
     let mut bytes = first.to_vec(heap)?;
     bytes.extend_from_slice(&second)?;
     Ok(bytes)
