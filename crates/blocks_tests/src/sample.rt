@@ -28,7 +28,11 @@ pub(crate) fn block(number: u8) -> [u8; 512] {
 }
 
 // Two blocks, one after the other.
-pub(crate) fn pair(heap: Global, first: [u8; 512], second: [u8; 512]) -> Result<Vec<u8>, AllocError> {
+pub(crate) fn pair(
+    heap: Global,
+    first: [u8; 512],
+    second: [u8; 512],
+) -> Result<Vec<u8>, AllocError> {
     let mut bytes = first.to_vec(heap)?;
     bytes.extend_from_slice(&second)?;
     Ok(bytes)
