@@ -1,10 +1,10 @@
 -- A report and its block determine each other.
-use mathlib.Core.Path.{_≡_, refl, ap, sym, subst, _∙_}
-use mathlib.Core.Bool.{Bool, true, false, not, _&&_, _||_}
+use mathlib.Core.Path.{_≡_, refl, ap, sym, _∙_}
+use mathlib.Core.Bool.{true}
 use mathlib.Core.List.{List, [], _∷_, _++_}
-use Prim.Native.Nat.{ℕ, zero, suc, _+_, _-_, _*_, _/_, _%_, _^_, _≤_, _<_}
+use Prim.Native.Nat.{ℕ, _+_, _-_, _/_, _%_, _<_}
 use native.Mathlib.Omega.{arith}
-use lib.Dec.{eqb, ltb, leb}
+use lib.Dec.{eqb, ltb}
 use lib.ListN.{length, getD, take, drop, replicate}
 use lib.Seq.{take-add}
 use Rattle.std.specs.Holes.{between}
@@ -12,7 +12,6 @@ use Rattle.std.specs.shelf.Lists.{sum}
 use Rattle.std.proofs.shelf.Lists.{length-take, length-drop, take-append-drop, drop-more, drop-all}
 use Rattle.std.proofs.shelf.Tests.{and-parts, or-parts, or-from, eqb-true, eqb-false, le-ltb, ltb-false}
 use Rattle.octets.specs.Big.{be2, num2}
-use Rattle.store.specs.Reports.{Report, unfit}
 use Rattle.blocks.specs.Layout.{headOf, checkedBytes, blockOf, allZero, numberIn, reportIn, written}
 use Rattle.blocks.specs.Laws.{Reads-back, Written-only}
 use Rattle.blocks.proofs.Layouts.{written-is, report-is, parts-of, body-long}

@@ -1,14 +1,13 @@
 -- What a put and a removal leave of sound blocks.
 use mathlib.Core.Path.{_≡_, refl, ap, sym, subst, _∙_}
-use mathlib.Core.Bool.{Bool, true, false, cond, not, _&&_, _||_}
-use mathlib.Core.Logic.{_⊎_, inl, inr}
+use mathlib.Core.Bool.{true, false, cond, _&&_}
+use mathlib.Core.Logic.{inl, inr}
 use mathlib.Core.List.{List, [], _∷_, _++_}
-use Prim.Native.Nat.{ℕ, zero, suc, _+_, _-_, _*_, _/_, _^_, _≤_, _<_}
+use Prim.Native.Nat.{ℕ, _+_, _*_, _/_, _^_, _≤_, _<_}
 use native.Mathlib.Omega.{arith}
 use lib.Dec.{eqb, ltb, leb}
-use lib.ListN.{length, getD, set, take, drop}
+use lib.ListN.{length, set}
 use Rattle.std.specs.Holes.{between}
-use Rattle.std.specs.declared.option.Option.{Option}
 use Rattle.std.specs.declared.option.Option.the-variants.{Some, None}
 use Rattle.std.proofs.shelf.Lists.{length-replicate}
 use Rattle.std.proofs.shelf.Tests.{cond-true, cond-false, cond-both, cases-cond, and-from, and-parts, or-parts, or-left, or-right, le-leb, ltb-false}
@@ -17,7 +16,7 @@ use Rattle.octets.specs.Places.{placed}
 use Rattle.octets.proofs.Placing.{length-placed}
 use Rattle.store.specs.Reports.{Report, oldestNumber, newestNumber, unfit, putNumber, afterPut, afterRemove}
 use Rattle.store.specs.Answers.{readAnswer, readBody}
-use Rattle.store.proofs.Puts.{fit-report, put-taken, after-taken, put-full, after-full}
+use Rattle.store.proofs.Puts.{put-taken, after-taken}
 use Rattle.blocks.specs.Layout.{allZero, written, numberIn, reportIn, blockOf, freeBlock}
 use Rattle.blocks.specs.Blocks.{blocksOf, byNumber, intact, hasNumber, distinct, placeOf, firstFree, capacityOf, heldIn, bytesAfterPut, bytesAfterRemove, freed}
 use Rattle.blocks.specs.declared.block_store.BlockStore.{BlockStore}

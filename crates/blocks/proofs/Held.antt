@@ -1,16 +1,14 @@
 -- The reports of intact blocks: their numbers, one more, one less.
 use mathlib.Core.Path.{_≡_, refl, ap, sym, subst, _∙_}
-use mathlib.Core.Bool.{Bool, true, false, cond, not, _&&_, _||_}
+use mathlib.Core.Bool.{true, false, not, _||_}
 use mathlib.Core.Logic.{_⊎_, inl, inr}
 use mathlib.Core.List.{List, [], _∷_, _++_}
-use Prim.Native.Nat.{ℕ, zero, suc, _+_, _-_, _*_, _≤_, _<_, min, max}
+use Prim.Native.Nat.{ℕ, zero, suc, _≤_, _<_, max}
 use native.Mathlib.Omega.{arith}
-use lib.Dec.{eqb, ltb, leb}
-use lib.ListN.{length, getD, set, take, drop}
-use Rattle.std.proofs.shelf.Lists.{length-set}
-use Rattle.std.proofs.shelf.Tests.{cond-true, cond-false, and-from, and-parts, or-cases, or-parts, or-from, or-left, or-right, both-ways, cases-bool, cases-eq, cases-lt, eq-eqb, ne-eqb, eqb-true, eqb-false, lt-ltb, le-ltb, not-true, not-from-false}
+use lib.Dec.{eqb, ltb}
+use lib.ListN.{length, getD, set}
+use Rattle.std.proofs.shelf.Tests.{cond-true, cond-false, and-from, and-parts, or-cases, or-parts, or-from, or-left, or-right, both-ways, cases-bool, cases-eq, cases-lt, eq-eqb, ne-eqb, eqb-true, eqb-false, lt-ltb, not-true, not-from-false}
 use Rattle.std.proofs.shelf.Ways.{tells}
-use Rattle.octets.specs.Big.{num2}
 use Rattle.store.specs.Reports.{Report, newestNumber}
 use Rattle.blocks.specs.Layout.{allZero, written, numberIn, reportIn, freeBlock}
 use Rattle.blocks.specs.Blocks.{lower, insertReport, byNumber, intact, hasNumber, distinct, placeOf, firstFree}

@@ -1,20 +1,19 @@
 -- A block as it is written, that it reads back, and that only such blocks pass for written.
-use mathlib.Core.Path.{_≡_, refl, ap, sym, subst, _∙_}
-use mathlib.Core.Bool.{Bool, true, false, not, _&&_, cond}
-use mathlib.Core.List.{List, [], _∷_, _++_}
+use mathlib.Core.Path.{_≡_, refl, ap, sym, _∙_}
+use mathlib.Core.Bool.{Bool, true, false, not, cond}
+use mathlib.Core.List.{List, [], _++_}
 use Prim.Native.Nat.{ℕ, zero, suc, _+_, _-_, _*_, _/_, _%_, _^_, _≤_, _<_}
 use native.Mathlib.Nat.{zero-add}
 use native.Mathlib.Omega.{arith}
-use lib.Dec.{eqb, ltb, leb}
+use lib.Dec.{eqb, leb}
 use lib.ListN.{length, getD, take, drop, replicate}
-use lib.Seq.{take-add}
 use Rattle.std.specs.Holes.{between}
 use Rattle.std.specs.shelf.Lists.{sum}
-use Rattle.std.proofs.shelf.Lists.{append-nil, append-assoc, length-append, length-replicate, length-take, length-drop, take-append-drop, drop-more, take-at, drop-at, drop-drop, take-all, drop-all, drop-replicate, replicate-append-replicate, getD-append-right, same-lists}
-use Rattle.std.proofs.shelf.Tests.{cond-true, cond-false, and-from, and-parts, eq-eqb, ne-eqb, eqb-true, eqb-false, le-leb, leb-true, not-from-false, not-true, cases-bool}
+use Rattle.std.proofs.shelf.Lists.{append-nil, append-assoc, length-append, length-replicate, take-at, drop-at, drop-drop, drop-all, drop-replicate, replicate-append-replicate, getD-append-right}
+use Rattle.std.proofs.shelf.Tests.{cond-true, and-from, and-parts, eq-eqb, ne-eqb, eqb-true, le-leb, leb-true, not-from-false, not-true}
 use Rattle.std.proofs.shelf.Edits.{length-between}
 use Rattle.std.proofs.shelf.Bits.{shr-shr}
-use Rattle.octets.specs.Big.{be2, num2, num4}
+use Rattle.octets.specs.Big.{be2, num2}
 use Rattle.octets.specs.Places.{placed}
 use Rattle.octets.proofs.Placing.{placed-placed, length-placed}
 use Rattle.store.specs.Reports.{Report}

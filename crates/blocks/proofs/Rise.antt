@@ -1,15 +1,15 @@
 -- The reports of blocks with distinct numbers rise in their numbers.
-use mathlib.Core.Path.{_≡_, refl, ap, sym, subst, _∙_}
-use mathlib.Core.Bool.{Bool, true, false, cond}
-use mathlib.Core.Logic.{_⊎_, inl, inr}
+use mathlib.Core.Path.{_≡_, sym, subst}
+use mathlib.Core.Bool.{false}
+use mathlib.Core.Logic.{inl, inr}
 use mathlib.Core.List.{List, [], _∷_}
 use Prim.Native.Nat.{ℕ, _≤_, _<_}
 use native.Mathlib.Omega.{arith}
 use lib.Dec.{ltb}
-use Rattle.std.proofs.shelf.Tests.{cond-both, cases-bool, cases-lt, ltb-true, ltb-false}
+use Rattle.std.proofs.shelf.Tests.{cond-both, cases-bool, cases-lt}
 use Rattle.store.specs.Reports.{Report}
 use Rattle.blocks.specs.Layout.{allZero, numberIn, reportIn}
-use Rattle.blocks.specs.Blocks.{insertReport, byNumber, intact, hasNumber, distinct}
+use Rattle.blocks.specs.Blocks.{insertReport, byNumber, hasNumber}
 use Rattle.blocks.specs.Laws.{Rising, By-number}
 use Rattle.blocks.proofs.Sorting.{later, insert-front, insert-none}
 use Rattle.blocks.proofs.Held.{none-held, skip, keep, kind-first, intact-rest, alone, distinct-parts, not-first}

@@ -1,13 +1,12 @@
 -- One step of a scan over blocks, and its end.
-use mathlib.Core.Path.{_≡_, refl, ap, sym, subst, _∙_}
-use mathlib.Core.Bool.{Bool, true, false, cond, not, _&&_, _||_}
+use mathlib.Core.Path.{_≡_, refl, ap, sym, _∙_}
+use mathlib.Core.Bool.{true, false, not, _&&_, _||_}
 use mathlib.Core.Logic.{_⊎_, inl, inr}
-use mathlib.Core.List.{List, [], _∷_, _++_}
-use Prim.Native.Nat.{ℕ, zero, suc, _+_, _-_, _*_, _≤_, _<_, min, max}
+use mathlib.Core.List.{List, [], _∷_}
+use Prim.Native.Nat.{ℕ, zero, suc, _+_, _*_, _≤_, _<_, max}
 use native.Mathlib.Omega.{arith}
-use lib.Dec.{eqb, ltb, leb}
 use lib.ListN.{length, getD, take, drop}
-use Rattle.std.proofs.shelf.Lists.{drop-more, drop-all, length-drop, getD-take, getD-drop, at-drop-more, at-drop-all}
+use Rattle.std.proofs.shelf.Lists.{drop-more, drop-all, length-drop, getD-take, getD-drop}
 use Rattle.std.proofs.shelf.Tests.{and-left, or-from, or-left, or-right, not-from-true, not-from-false, lt-ltb, le-ltb}
 use Rattle.std.proofs.shelf.Ways.{tells}
 use Rattle.std.specs.declared.option.Option.the-variants.{Some, None}
@@ -16,7 +15,7 @@ use Rattle.blocks.specs.Layout.{allZero, written, numberIn}
 use Rattle.blocks.specs.Blocks.{lower, blocksOf, byNumber, intact, hasNumber, distinct, placeOf}
 use Rattle.blocks.proofs.Sorting.{AtLeast, firstNumber}
 use Rattle.blocks.proofs.Cutting.{block-at}
-use Rattle.blocks.proofs.Held.{Kind, none-held, some, kind-first, intact-rest, place-here, place-later, place-none, place-le, has-is, first-cons, newest-cons, length-free, length-used}
+use Rattle.blocks.proofs.Held.{Kind, none-held, some, kind-first, intact-rest, place-here, place-later, place-none, has-is, first-cons, newest-cons, length-free, length-used}
 
 -- the four bytes that a block's number is read from
 pub number-at : (n i : ℕ) (xs : List ℕ) → i < n

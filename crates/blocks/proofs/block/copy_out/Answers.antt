@@ -1,6 +1,6 @@
 use mathlib.Core.Path.{_≡_, refl, sym, ap, subst, _∙_}
-use mathlib.Core.List.{List, [], _∷_}
-use Prim.Native.Nat.{ℕ, _+_, _-_, _*_, _≤_}
+use mathlib.Core.List.{[]}
+use Prim.Native.Nat.{ℕ, _≤_}
 use native.Mathlib.Omega.{arith}
 use lib.Dec.{ltb}
 use lib.ListN.{length, getD, take}
@@ -9,7 +9,6 @@ use Rattle.std.specs.declared.option.Option.the-variants.{Some}
 use Rattle.std.proofs.shelf.Tests.{cond-true, lt-ltb}
 use Rattle.octets.specs.Big.{num2}
 use Rattle.store.specs.declared.answers.Copied.{Copied}
-use Rattle.store.specs.Reports.{Report}
 use Rattle.store.proofs.Copying.{copied, read-answer, read-body, read-later}
 use Rattle.blocks.specs.Layout.{reportIn}
 use Rattle.blocks.proofs.Layouts.{parts-of, body-long}

@@ -1,4 +1,3 @@
-use mathlib.Core.Path.{_≡_}
 use Rattle.blocks.proofs.Layouts.{sealed}
 use Rattle.blocks.proofs.block.write_block.Needs as need
 

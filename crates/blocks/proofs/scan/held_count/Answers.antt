@@ -1,12 +1,7 @@
-use mathlib.Core.Path.{_≡_, refl, ap, sym, subst, _∙_}
-use mathlib.Core.Bool.{Bool, true, false, not, _&&_, _||_}
-use mathlib.Core.Logic.{inl, inr}
-use mathlib.Core.List.{List, [], _∷_}
-use Prim.Native.Nat.{ℕ, zero, suc, _+_, _-_, _*_, _≤_, _<_, max}
+use mathlib.Core.Path.{_≡_, ap, sym, _∙_}
+use Prim.Native.Nat.{_≤_, _<_}
 use native.Mathlib.Omega.{arith}
-use lib.Dec.{eqb, ltb}
-use lib.ListN.{length, getD, drop}
-use Rattle.blocks.specs.Layout.{numberIn}
+use lib.ListN.{length, drop}
 use Rattle.blocks.specs.Blocks.{blocksOf, byNumber, heldIn}
 use Rattle.blocks.proofs.Cutting.{length-blocks}
 use Rattle.blocks.proofs.Scanning.{intact-drop, free-step, used-step, held-end}

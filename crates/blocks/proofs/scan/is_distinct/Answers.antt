@@ -1,13 +1,9 @@
-use mathlib.Core.Path.{_≡_, refl, ap, sym, subst, _∙_}
-use mathlib.Core.Bool.{Bool, true, false, not, _&&_, _||_}
+use mathlib.Core.Path.{ap, sym, _∙_}
 use mathlib.Core.Logic.{inl, inr}
-use mathlib.Core.List.{List, [], _∷_}
-use Prim.Native.Nat.{ℕ, zero, suc, _+_, _-_, _*_, _≤_, _<_, max}
+use Prim.Native.Nat.{_+_, _≤_, _<_}
 use native.Mathlib.Omega.{arith}
-use lib.Dec.{eqb, ltb}
-use lib.ListN.{length, getD, drop}
-use Rattle.blocks.specs.Layout.{numberIn}
-use Rattle.blocks.specs.Blocks.{blocksOf, distinct, placeOf}
+use lib.ListN.{length, drop}
+use Rattle.blocks.specs.Blocks.{blocksOf, placeOf}
 use Rattle.blocks.proofs.Cutting.{length-blocks}
 use Rattle.blocks.proofs.Scanning.{intact-drop, distinct-bad, distinct-good, distinct-end}
 use Rattle.blocks.proofs.scan.is_distinct.Needs as need

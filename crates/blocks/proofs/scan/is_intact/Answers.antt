@@ -1,14 +1,12 @@
-use mathlib.Core.Path.{_≡_, refl, ap, sym, subst, _∙_}
-use mathlib.Core.Bool.{Bool, true, false, not, _&&_, _||_}
-use mathlib.Core.Logic.{inl, inr}
-use mathlib.Core.List.{List, [], _∷_}
-use Prim.Native.Nat.{ℕ, zero, suc, _+_, _-_, _*_, _≤_, _<_, max}
+use mathlib.Core.Path.{_≡_, ap, sym, _∙_}
+use mathlib.Core.Bool.{true, _||_}
+use mathlib.Core.List.{[]}
+use Prim.Native.Nat.{_≤_, _<_}
 use native.Mathlib.Omega.{arith}
-use lib.Dec.{eqb, ltb}
-use lib.ListN.{length, getD, drop}
+use lib.ListN.{length, getD}
 use Rattle.std.proofs.shelf.Tests.{or-left, or-right}
 use Rattle.blocks.specs.Layout.{allZero, written}
-use Rattle.blocks.specs.Blocks.{blocksOf, intact}
+use Rattle.blocks.specs.Blocks.{blocksOf}
 use Rattle.blocks.proofs.Cutting.{length-blocks, block-part}
 use Rattle.blocks.proofs.Scanning.{intact-bad, intact-good, intact-end}
 use Rattle.blocks.proofs.scan.is_intact.Needs as need

@@ -1,11 +1,8 @@
-use mathlib.Core.Path.{_≡_, refl, ap, sym, subst, _∙_}
-use mathlib.Core.Bool.{Bool, true, false, not, _&&_, _||_}
-use mathlib.Core.List.{List, [], _∷_}
-use Prim.Native.Nat.{ℕ, zero, suc, _+_, _-_, _*_, _≤_, _<_, max}
+use mathlib.Core.Path.{sym, _∙_}
+use Prim.Native.Nat.{_≤_, _<_}
 use native.Mathlib.Omega.{arith}
-use lib.Dec.{eqb, ltb}
-use lib.ListN.{length, getD, drop}
-use Rattle.blocks.specs.Blocks.{blocksOf, placeOf}
+use lib.ListN.{length}
+use Rattle.blocks.specs.Blocks.{blocksOf}
 use Rattle.blocks.proofs.Cutting.{length-blocks}
 use Rattle.blocks.proofs.Scanning.{place-hit, place-miss, place-end}
 use Rattle.blocks.proofs.scan.place_of.Needs as need

@@ -1,21 +1,18 @@
-use mathlib.Core.Path.{_≡_, refl, sym, ap, subst, _∙_}
-use mathlib.Core.Bool.{Bool, true, false, _||_}
+use mathlib.Core.Path.{_≡_, refl, sym, ap, _∙_}
+use mathlib.Core.Bool.{true}
 use mathlib.Core.Logic.{inl, inr}
-use mathlib.Core.List.{List}
-use Prim.Native.Nat.{ℕ, _+_, _*_, _^_, _≤_, _<_}
+use Prim.Native.Nat.{_+_}
 use native.Mathlib.Omega.{arith}
 use lib.Dec.{eqb, ltb}
 use lib.ListN.{length}
-use Rattle.std.specs.Of.Vec.{vec-items, vec-len}
+use Rattle.std.specs.Of.Vec.{vec-items}
 use Rattle.std.proofs.shelf.Lists.{refilled-is}
 use Rattle.std.proofs.shelf.Tests.{or-left, or-right, eq-eqb, lt-ltb}
-use Rattle.octets.specs.Places.{placed}
 use Rattle.store.specs.Reports.{Report, newestNumber, unfit}
 use Rattle.store.proofs.Puts.{fit-report, put-full}
-use Rattle.blocks.specs.Layout.{blockOf}
 use Rattle.blocks.specs.Blocks.{capacityOf, blocksOf, intact, distinct, placeOf, heldIn}
 use Rattle.blocks.proofs.Held.{positive}
-use Rattle.blocks.proofs.Changes.{Sound, Taken, taken, sound-store, put-unfit, put-stale, refused-list, refused-bytes, full-list}
+use Rattle.blocks.proofs.Changes.{Taken, taken, sound-store, put-unfit, put-stale, refused-list, refused-bytes, full-list}
 use Rattle.blocks.proofs.block_store.calls.BlockStoreStore.put.Needs as need
 
 pub returns-then-number-eq0 : need.returns-then-number-eq0

@@ -1,15 +1,14 @@
-use mathlib.Core.Path.{_≡_, refl, sym, ap, subst, _∙_}
-use mathlib.Core.List.{List, [], _∷_}
-use Prim.Native.Nat.{ℕ, _+_, _-_, _*_, _≤_, _<_}
+use mathlib.Core.Path.{_≡_, ap, subst, _∙_}
+use mathlib.Core.List.{[], _∷_}
+use Prim.Native.Nat.{_+_, _*_}
 use native.Mathlib.Omega.{arith}
 use lib.ListN.{length, take, drop}
-use Rattle.std.specs.Of.Vec.{vec-items, vec-len}
+use Rattle.std.specs.Of.Vec.{vec-items}
 use Rattle.std.specs.Holes.{between}
 use Rattle.std.proofs.shelf.Edits.{length-between}
-use Rattle.store.specs.Reports.{oldestNumber}
 use Rattle.store.specs.Answers.{readAnswer, readBody}
 use Rattle.blocks.specs.Layout.{written, reportIn}
-use Rattle.blocks.specs.Blocks.{blocksOf, placeOf, heldIn}
+use Rattle.blocks.specs.Blocks.{heldIn}
 use Rattle.blocks.proofs.Changes.{Found, found, sound-store}
 use Rattle.blocks.proofs.block_store.calls.BlockStoreStore.read.Needs as need
 

@@ -1,15 +1,14 @@
-use mathlib.Core.Path.{_≡_, refl, sym, ap, subst, _∙_}
-use mathlib.Core.List.{List, [], _∷_}
-use Prim.Native.Nat.{ℕ, _+_, _-_, _*_, _≤_, _<_}
+use mathlib.Core.Path.{_≡_, refl, sym, ap, _∙_}
+use Prim.Native.Nat.{_*_}
 use native.Mathlib.Omega.{arith}
-use lib.ListN.{length, take, drop}
-use Rattle.std.specs.Of.Vec.{vec-items, vec-len}
+use lib.ListN.{length}
+use Rattle.std.specs.Of.Vec.{vec-items}
 use Rattle.std.specs.Changed.{refilled}
 use Rattle.std.proofs.shelf.Lists.{refilled-is}
 use Rattle.octets.specs.Places.{placed}
 use Rattle.store.specs.Reports.{oldestNumber, afterRemove}
 use Rattle.blocks.specs.Layout.{freeBlock}
-use Rattle.blocks.specs.Blocks.{capacityOf, blocksOf, intact, distinct, placeOf, heldIn, freed}
+use Rattle.blocks.specs.Blocks.{capacityOf, blocksOf, intact, distinct, heldIn, freed}
 use Rattle.blocks.proofs.Changes.{Found, none-is, found, sound-store}
 use Rattle.blocks.proofs.block_store.calls.BlockStoreStore.remove.Needs as need
 
