@@ -1,3 +1,4 @@
 pub mod Copying
 pub mod Puts
 pub mod Turning
+pub mod Reading

@@ -1,8 +1,7 @@
 ghost use mathlib.Core.Path.{_≡_};
-ghost use lib.ListN.{length, take, drop};
 ghost use Rattle.std.specs.Of.Vec.{vec-items};
-ghost use Rattle.store.specs.Answers.{answerNumber, readAnswer, readBody};
-ghost use Rattle.store.specs.Reports.{oldestNumber, putNumber, afterPut, afterRemove};
+ghost use Rattle.store.specs.Answers.{answerNumber};
+ghost use Rattle.store.specs.Reports.{putNumber, afterPut, afterRemove};
 ghost use Rattle.blocks.specs.Blocks.{capacityOf, heldIn, bytesAfterPut, bytesAfterRemove};
 ghost use Rattle.blocks.specs.Stores.{bytesOf, reportsOf};
 use crate::block::BLOCK;

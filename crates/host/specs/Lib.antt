@@ -1,0 +1,3 @@
+pub mod Grants
+pub mod Replies
+pub mod Takes

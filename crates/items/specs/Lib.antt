@@ -1,0 +1,3 @@
+pub mod Encode
+pub mod Decode
+pub mod Laws

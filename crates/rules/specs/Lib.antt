@@ -1,0 +1,5 @@
+pub mod ControlRules
+pub mod LinkRules
+pub mod Reporting
+pub mod Sends
+pub mod Views

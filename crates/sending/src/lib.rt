@@ -1,0 +1,2 @@
+// The frame that a call sends.
+pub mod outbox;

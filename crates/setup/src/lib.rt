@@ -1,0 +1,4 @@
+// What the equipment is told before it starts: alarms, variables with their bands, and the settings.
+pub mod plan;
+pub mod settings;
+pub mod table;

@@ -1,0 +1,3 @@
+// The states of the equipment: communications and control (SEMI E30).
+pub mod control;
+pub mod link;

@@ -1,0 +1,4 @@
+pub mod Bands
+pub mod Laws
+pub mod Orders
+pub mod Runs

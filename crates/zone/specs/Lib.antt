@@ -1,0 +1,5 @@
+pub mod Zones
+pub mod Laws
+pub mod Places
+pub mod Runs
+pub mod Variables
