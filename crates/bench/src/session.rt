@@ -218,9 +218,8 @@ fn unload(rt: &LibcRuntime, bench: &mut Bench) -> Result<(), AnyError> {
     unload_one(rt, bench)
 }
 
-// The last spooled report, and the end of the spool.
+// The last spooled report, the end of the spool, and the report of that end.
 fn finish(rt: &LibcRuntime, bench: &mut Bench) -> Result<(), AnyError> {
-    unload_one(rt, bench)?;
     unload_one(rt, bench)?;
     take_step(
         rt,
@@ -228,7 +227,13 @@ fn finish(rt: &LibcRuntime, bench: &mut Bench) -> Result<(), AnyError> {
         "The spool is empty: it becomes inactive",
         Step::Pump,
     )?;
-    unload_one(rt, bench)?;
+    take_step(
+        rt,
+        bench,
+        "The report of that is sent from the queue",
+        Step::Pump,
+    )?;
+    acknowledge(rt, bench)?;
     take_step(
         rt,
         bench,
