@@ -5,14 +5,17 @@ use mathlib.Core.Bool.{Bool, true, false, cond, _||_}
 use mathlib.Core.List.{List, [], _∷_, _++_}
 use native.Mathlib.Omega.{arith}
 use lib.Dec.{eqb, leb, ltb}
-use lib.ListN.{length, getD, take}
+use lib.ListN.{drop, getD, length, take}
 use denote.Ref.{now}
 use Rattle.std.proofs.shelf.Lists.{length-append}
-use Rattle.std.proofs.shelf.Tests.{eqb-false, leb-false}
-use Rattle.store.specs.Reports.{Report, afterPut, afterRemove, newestNumber, unfit}
+use Rattle.std.specs.declared.option.Option.{Option}
+use Rattle.std.proofs.shelf.Tests.{cond-false, eqb-false, le-ltb, leb-false}
+use Rattle.store.specs.Answers.{readAnswer, readBody}
+use Rattle.store.specs.Reports.{Report, afterPut, afterRemove, newestNumber, putNumber, unfit}
+use Rattle.store.specs.declared.answers.Copied.{Copied}
 use Rattle.replay.specs.declared.steps.Step.{Step}
 use Rattle.replay.specs.declared.steps.Step.the-variants.{Put, Remove}
-use Rattle.replay.specs.Runs.{Rising, afterStep, afterSteps}
+use Rattle.replay.specs.Runs.{ReadBack, Rising, afterStep, afterSteps}
 
 record Sound (capacity : ℕ) (held : List Report) : Type 0 where
   rising : Rising 0 held
@@ -73,3 +76,51 @@ from-empty capacity xs before after e b =
 pub steps-push : (capacity : ℕ) (xs : List Step) (x : Step) (held : List Report) → afterSteps capacity (xs ++ (x ∷ [])) held ≡ afterStep capacity x (afterSteps capacity xs held)
 steps-push capacity [] x held = refl
 steps-push capacity (y ∷ ys) x held = steps-push capacity ys x (afterStep capacity y held)
+
+-- a list whose newest report is a given one
+pub record EndsWith (r : Report) (held : List Report) : Type 0 where
+  pub before : List Report
+  pub is : held ≡ before ++ (r ∷ [])
+
+pub put-ends : (held after : List Report) (capacity : ℕ) (r : Report) → putNumber held capacity r ≡ 0 → after ≡ afterPut held capacity r → EndsWith r after
+put-ends held after capacity r z e = record { before = held; is = e ∙ ap (λ (n : ℕ). cond (eqb n 0) (held ++ (r ∷ [])) held) z }
+
+pub removed-ends : (r : Report) (held after : List Report) → EndsWith r held → 1 < length held → after ≡ afterRemove held → EndsWith r after
+removed-ends r held after p l e = go (p .before) (p .is)
+  where
+    go : (b : List Report) → held ≡ b ++ (r ∷ []) → EndsWith r after
+    go [] q = absurd (short (ap length q))
+      where
+        short : length held ≡ 1 → ⊥
+        short k = omega arith
+    go (x ∷ xs) q = record { before = xs; is = e ∙ ap afterRemove q }
+
+pub removed-less : (held after : List Report) → 1 < length held → after ≡ afterRemove held → length after < length held
+removed-less [] after l e = absurd (none l)
+  where
+    none : 1 < 0 → ⊥
+    none k = omega arith
+removed-less (x ∷ xs) after l e = omega (arith, ap length e)
+
+pub only-left : (r : Report) (held : List Report) → EndsWith r held → length held ≤ 1 → held ≡ r ∷ []
+only-left r held p l = go (p .before) (p .is)
+  where
+    go : (b : List Report) → held ≡ b ++ (r ∷ []) → held ≡ r ∷ []
+    go [] q = q
+    go (x ∷ xs) q = absurd (long (ap length q ∙ ap (λ (n : ℕ). n) (length-append (x ∷ xs) (r ∷ []))))
+      where
+        long : length held ≡ length (x ∷ xs) + 1 → ⊥
+        long k = omega arith
+
+pub read-back : (r : Report) (held : List Report) (told : Option Copied) (xs ys : List ℕ) → held ≡ r ∷ [] → 480 ≤ length xs
+    → told ≡ readAnswer held (length xs) → take (length (readBody held (length xs))) ys ≡ readBody held (length xs) → drop (length (readBody held (length xs))) ys ≡ drop (length (readBody held (length xs))) xs
+    → ReadBack r told xs ys held
+read-back r held told xs ys o n a b d =
+    let full : ltb (length xs) 480 ≡ false = le-ltb (length xs) 480 n in
+    let body : readBody held (length xs) ≡ r .body = ap (λ (l : List Report). readBody l (length xs)) o ∙ cond-false _ [] (r .body) full in
+    record {
+      answer = a ∙ (ap (λ (l : List Report). readAnswer l (length xs)) o ∙ cond-false _ _ _ full);
+      front = subst (λ (k : List ℕ). take (length k) ys ≡ k) body b;
+      later = subst (λ (k : List ℕ). drop (length k) ys ≡ drop (length k) xs) body d;
+      only = o;
+    }

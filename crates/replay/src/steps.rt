@@ -2,8 +2,12 @@ ghost use mathlib.Core.Path.{_≡_};
 ghost use mathlib.Core.List.{[]};
 ghost use Prim.Native.Nat.{_≤_};
 ghost use lib.ListN.{length};
-ghost use Rattle.replay.specs.Runs.{Rising, afterStep, afterSteps};
+ghost use Rattle.replay.specs.Runs.{ReadBack, Rising, afterStep, afterSteps};
+ghost use Rattle.std.specs.declared.option.Option.the-variants.{None};
+ghost use Rattle.store.specs.Reports.{putNumber};
 use store::Store;
+use store::answers::Copied;
+use store::answers::PutAnswer;
 
 // One step on a store.
 #[derive(Clone, Copy)]
@@ -36,4 +40,27 @@ fn take_step<S: Store>(store: &mut S, step: Step<'_>)
         }
         Step::Remove => store.remove(),
     }
+}
+
+// Puts a report and, where it is taken, removes every older one and reads it back.
+pub fn put_and_read<S: Store>(
+    store: &mut S,
+    number: u32,
+    stream: u8,
+    function: u8,
+    body: &[u8],
+    buffer: &mut [u8],
+) -> Option<Copied>
+    ensures law { λ r. ⌜ (putNumber (S·Store .records (now (store .entry))) (S·Store .limit (now (store .entry))) (record { number = number; stream = stream; function = function; body = now (body .entry) }) ≡ 0 → 480 ≤ length (now (buffer .entry)) → ReadBack (record { number = number; stream = stream; function = function; body = now (body .entry) }) r (now (buffer .entry)) (now (buffer .exit)) (S·Store .records (now (store .exit)))) ⌝ }
+    ensures refused { λ r. ⌜ ((putNumber (S·Store .records (now (store .entry))) (S·Store .limit (now (store .entry))) (record { number = number; stream = stream; function = function; body = now (body .entry) }) ≡ 0 → ⊥) → (r ≡ None) × (S·Store .records (now (store .exit)) ≡ S·Store .records (now (store .entry))) × (now (buffer .exit) ≡ now (buffer .entry))) ⌝ }
+    ensures capacity { λ _. ⌜ S·Store .limit (now (store .exit)) ≡ S·Store .limit (now (store .entry)) ⌝ }
+{
+    match store.put(number, stream, function, body) {
+        PutAnswer::Taken => {}
+        PutAnswer::Full | PutAnswer::Stale | PutAnswer::Unfit => return None,
+    }
+    while store.count() > 1 {
+        store.remove();
+    }
+    store.read(buffer)
 }
