@@ -1,9 +1,9 @@
 // Values as the content of their items.
-use std::test::*;
 use kinds::kind::RealKind;
 use kinds::kind::ValueKind;
 use kinds::kind::WholeKind;
 use kinds::real::Real;
+use std::test::*;
 
 // The formats I4 and F4.
 #[test]

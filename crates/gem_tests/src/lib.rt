@@ -1,0 +1,5 @@
+// Example runs of the equipment through its public calls.
+#[cfg(test)]
+mod driver;
+#[cfg(test)]
+mod link;
