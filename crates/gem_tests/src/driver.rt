@@ -20,6 +20,8 @@ use zone::variable::Sample;
 #[derive(Clone, Copy)]
 pub(crate) enum Act<'a> {
     Host(&'a [u8]),
+    // A frame of so many zeros.
+    Zeros(usize),
     Switch(u32),
     Expiry(u32),
     Failure,
@@ -118,6 +120,14 @@ fn perform(
                 (255, 0, 0, 0)
             }
         }
+        Act::Zeros(n) => {
+            let bytes = [0u8; 512];
+            if n <= 512 {
+                equipment.host(&bytes[0..n], out, ledger)
+            } else {
+                (255, 0, 0, 0)
+            }
+        }
         Act::Switch(number) => equipment.switch(number, out, ledger),
         Act::Expiry(number) => equipment.expiry(number, out, ledger),
         Act::Failure => equipment.failure(out, ledger),
@@ -201,20 +211,153 @@ pub(crate) const SETTINGS: Settings = Settings {
     max_transmit: 0,
 };
 
-// Starts an equipment with a queue of 2 and a spool of 2 and runs the steps; answers how many reports queue and spool hold then.
-pub(crate) fn run(
+// The same with the fallback HOST OFF-LINE.
+pub(crate) const HOST_FALLBACK: Settings = Settings {
+    session: 7,
+    fallback: Fallback::HostOffline,
+    overwrite: false,
+    max_transmit: 0,
+};
+
+// The same with OverWriteSpool.
+pub(crate) const OVERWRITE: Settings = Settings {
+    session: 7,
+    fallback: Fallback::EquipmentOffline,
+    overwrite: true,
+    max_transmit: 0,
+};
+
+// The same with MaxSpoolTransmit 1.
+pub(crate) const ONE_AT_MOST: Settings = Settings {
+    session: 7,
+    fallback: Fallback::EquipmentOffline,
+    overwrite: false,
+    max_transmit: 1,
+};
+
+// How far an equipment is taken before the steps of a test.
+#[derive(Clone, Copy)]
+pub(crate) enum Stage {
+    // Just started.
+    Started,
+    // COMMUNICATING, after transaction 1.
+    Communicating,
+    // REMOTE too, after transaction 2; report 1, of event 3, is queued.
+    Online,
+    // The same with report 1 sent and acknowledged, after transaction 3.
+    Ready,
+}
+
+// ENABLE, and the host accepts.
+fn connect(equipment: &mut Equipment<Ring, Ring>) -> Result<(), Fail> {
+    take_steps(
+        equipment,
+        &[
+            // S1,F13 W, transaction 1: L,2 A "BENCH1" A "000001"
+            done(
+                Act::Switch(1),
+                b"0000001c 0007 810d 0000 00000001 0102 4106 42454e434831 4106 303030303031",
+                &[],
+            ),
+            // S1,F14: L,2 B 0 L,0
+            done(
+                Act::Host(b"0007 010e 0000 00000001 0102 210100 0100"),
+                b"",
+                &[],
+            ),
+        ],
+    )
+}
+
+// ONLINE, and the host answers.
+fn go_online(equipment: &mut Equipment<Ring, Ring>) -> Result<(), Fail> {
+    take_steps(
+        equipment,
+        &[
+            // S1,F1 W, transaction 2
+            done(Act::Switch(3), b"0000000a 0007 8101 0000 00000002", &[]),
+            // S1,F2
+            done(
+                Act::Host(b"0007 0102 0000 00000002 0100"),
+                b"",
+                &[(b'M', 1)],
+            ),
+        ],
+    )
+}
+
+// The pump sends report 1, and the host acknowledges it.
+fn send_first(equipment: &mut Equipment<Ring, Ring>) -> Result<(), Fail> {
+    take_steps(
+        equipment,
+        &[
+            // S6,F11 W, transaction 3: L,3 U4 1, U4 3, L,0
+            done(
+                Act::Pump,
+                b"0000001a 0007 860b 0000 00000003 0103 b10400000001 b10400000003 0100",
+                &[],
+            ),
+            // S6,F12
+            done(
+                Act::Host(b"0007 060c 0000 00000003 210100"),
+                b"",
+                &[(b'A', 1)],
+            ),
+        ],
+    )
+}
+
+fn bring(equipment: &mut Equipment<Ring, Ring>, stage: Stage) -> Result<(), Fail> {
+    match stage {
+        Stage::Started => Ok(()),
+        Stage::Communicating => connect(equipment),
+        Stage::Online => {
+            connect(equipment)?;
+            go_online(equipment)
+        }
+        Stage::Ready => {
+            connect(equipment)?;
+            go_online(equipment)?;
+            send_first(equipment)
+        }
+    }
+}
+
+fn bring_and_take(
+    equipment: &mut Equipment<Ring, Ring>,
+    stage: Stage,
+    steps: &[Step<'_>],
+) -> Result<(), Fail> {
+    bring(equipment, stage)?;
+    take_steps(equipment, steps)
+}
+
+// Runs an equipment with a queue and a spool of these capacities; answers how many reports the two hold in the end.
+pub(crate) fn run_with(
     heap: Global,
+    capacities: (usize, usize),
     settings: Settings,
+    stage: Stage,
     steps: &[Step<'_>],
 ) -> Result<(usize, usize), Fail> {
-    let first = slots(heap, 2)?;
-    let second = slots(heap, 2)?;
+    let first = slots(heap, capacities.0)?;
+    let second = slots(heap, capacities.1)?;
     let mut equipment = Equipment::start(plan(), settings, Ring::new(first), Ring::new(second));
-    let outcome = take_steps(&mut equipment, steps);
+    let outcome = bring_and_take(&mut equipment, stage, steps);
     let (queue, spool) = equipment.into_stores();
     let counts = (queue.count(), spool.count());
     queue.into_slots();
     spool.into_slots();
     outcome?;
     Ok(counts)
+}
+
+// The same with a queue of 2 and a spool of 2.
+pub(crate) fn run(
+    heap: Global,
+    settings: Settings,
+    stage: Stage,
+    steps: &[Step<'_>],
+) -> Result<(usize, usize), Fail> {
+    run_with(heap, (2, 2), settings, stage, steps)
 }
