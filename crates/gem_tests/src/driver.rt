@@ -91,7 +91,7 @@ fn from_hex(text: &[u8], bytes: &mut [u8; 512]) -> usize {
 }
 
 // Whether the ledger begins with the listed lines and has the mark after them.
-fn lines_are(ledger: &[Line; 32], listed: &[(u8, u32)]) -> bool {
+pub(crate) fn lines_are(ledger: &[Line; 32], listed: &[(u8, u32)]) -> bool {
     for (i, line) in ledger.iter().enumerate() {
         let same = match listed.get(i) {
             Some((letter, number)) => line.letter.character() == *letter && line.number == *number,
