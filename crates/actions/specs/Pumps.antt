@@ -9,6 +9,7 @@ use Rattle.std.specs.declared.option.Option.the-variants.{Some, None}
 use Rattle.rules.specs.Reporting.{evented}
 use Rattle.rules.specs.Sends.{ourHeader}
 use Rattle.rules.specs.Views.{View, withCounts, withHeld, withSent}
+use Rattle.rules.specs.declared.event.Event.the-variants.{SpoolDeactivated}
 use Rattle.rules.specs.declared.state.Next.{Next}
 use Rattle.sending.specs.Sending.{Sent}
 use Rattle.setup.specs.declared.settings.Settings.{Settings}
@@ -53,9 +54,9 @@ abbrev pub reportSentFrom : Next → Source → View → View
 reportSentFrom n Queue v = reportSent n Queue (v .held .queue .records) v
 reportSentFrom n Spool v = reportSent n Spool (v .held .spool .records) v
 
--- the spool becomes inactive, and event 5 is reported
+-- the spool becomes inactive, and its event is reported
 abbrev pub spoolEnded : Next → View → View
-spoolEnded n v = evented n 5 (withHeld (deactivated (v .held)) v)
+spoolEnded n v = evented n SpoolDeactivated (withHeld (deactivated (v .held)) v)
 
 -- a purge removes the oldest report, or ends where there is none
 abbrev pub purgePumped : Next → Option ℕ → View → View

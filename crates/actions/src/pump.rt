@@ -3,6 +3,7 @@ ghost use Rattle.actions.specs.Pumps.{openedFrom, postedFrom, pumped, readySta
 ghost use Rattle.rules.specs.Views.{view};
 ghost use Rattle.sending.specs.Sending.{sentBy};
 ghost use Rattle.store.specs.Reports.{oldestNumber};
+use rules::event::Event;
 use rules::send::our_header;
 use rules::state::Core;
 use rules::state::Effects;
@@ -78,7 +79,7 @@ fn end_spool<Q: Store, S: Store>(core: &mut Core<Q, S>, next: Next, effects: &mu
     ensures { λ _. ⌜ view Q·Store S·Store (now (core .exit)) (now (effects .exit)) ≡ spoolEnded next (view Q·Store S·Store (now (core .entry)) (now (effects .entry))) ⌝ }
 {
     core.reports.deactivate();
-    core.report_event(next, 5, effects);
+    core.report_event(next, Event::SpoolDeactivated, effects);
 }
 
 // Whether a report may be sent now.

@@ -1,9 +1,11 @@
 ghost use mathlib.Core.Path.{_≡_};
 ghost use Rattle.actions.specs.Samples.{sampled};
 ghost use Rattle.rules.specs.Views.{view};
+use rules::event::Event;
 use rules::state::Core;
 use rules::state::Effects;
 use rules::state::Next;
+use setup::refusal::Refusal;
 use store::Store;
 use zone::variable::Sample;
 
@@ -19,14 +21,14 @@ pub fn take_sample<Q: Store, S: Store>(
     ensures after { λ _. ⌜ view Q·Store S·Store (now (core .exit)) (now (effects .exit)) ≡ sampled next number sample (view Q·Store S·Store (now (core .entry)) (now (effects .entry))) .after ⌝ }
 {
     let Some(mut variable) = core.state.setup.variables.get(number) else {
-        return (5, number as usize);
+        return (Refusal::Unknown.code(), number as usize);
     };
     match variable.sample(sample) {
         Err(fault) => (fault.code(), number as usize),
         Ok(moved) => {
             core.state.setup.variables.set(number, variable);
             if moved {
-                core.report_event(next, 300 + number, effects);
+                core.report_event(next, Event::ZoneMoved(number as u8), effects);
             }
             (0, 0)
         }

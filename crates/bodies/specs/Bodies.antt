@@ -18,9 +18,13 @@ use Rattle.bodies.specs.declared.body.Body.the-variants as body
 abbrev pub identity : Item
 identity = list (value Ascii (codes "BENCH1") then value Ascii (codes "000001") then end)
 
--- S1,F14: COMMACK 0, which accepts, and the identity
+-- COMMACK that accepts communications
+abbrev pub commackAccepted : ℕ
+commackAccepted = 0
+
+-- S1,F14: COMMACK that accepts, and the identity
 abbrev pub accepted : Item
-accepted = list (value Binary (0 ∷ []) then identity then end)
+accepted = list (value Binary (commackAccepted ∷ []) then identity then end)
 
 -- S5,F1: alarm code, alarm number, an empty text
 abbrev pub alarmReport : ℕ → ℕ → Item

@@ -8,6 +8,10 @@ use Rattle.host.specs.Grants.{withAlarm}
 use Rattle.host.specs.Takes.{Turn, done}
 use Rattle.rules.specs.Reporting.{alarmReported, evented}
 use Rattle.rules.specs.Views.{View, nextOf}
+use Rattle.rules.specs.declared.event.Event.{Event}
+use Rattle.rules.specs.declared.event.Event.the-variants.{AlarmCleared, AlarmSet}
+use Rattle.setup.specs.Refusals.{refusalCode}
+use Rattle.setup.specs.declared.refusal.Refusal.the-variants.{Unknown}
 use Rattle.setup.specs.Tables.{entryAt}
 use Rattle.setup.specs.declared.plan.Alarm.{Alarm}
 
@@ -15,9 +19,9 @@ use Rattle.setup.specs.declared.plan.Alarm.{Alarm}
 abbrev pub alcdOf : ℕ → Bool → ℕ
 alcdOf category set = category % 128 + cond set 128 0
 
--- the event of an alarm: 100 and its number when it is set, 200 and its number when it is cleared
-abbrev pub alarmEvent : ℕ → Bool → ℕ
-alarmEvent k set = cond set (100 + k) (200 + k)
+-- the event of an alarm that is set or cleared
+abbrev pub alarmEvent : ℕ → Bool → Event
+alarmEvent k set = cond set (AlarmSet k) (AlarmCleared k)
 
 -- an enabled alarm is reported
 abbrev pub alarmTold : ℕ → Alarm → Bool → View → View
@@ -37,9 +41,9 @@ isSame true b = b
 isSame false true = false
 isSame false false = true
 
--- an unknown alarm is refused with 5
+-- an unknown alarm is refused
 abbrev pub alarmedAt : ℕ → Bool → Option Alarm → View → Turn
-alarmedAt k set None v = refused 5 k v
+alarmedAt k set None v = refused (refusalCode Unknown) k v
 alarmedAt k set (Some a) v = done (cond (isSame (a .set) set) v (alarmChanged k set a v))
 
 unfoldable pub alarmed : ℕ → Bool → View → Turn

@@ -5,6 +5,8 @@ use lib.Dec.{eqb, leb}
 use lib.ListN.{length}
 use Rattle.std.specs.declared.option.Option.the-variants.{None}
 use Rattle.rules.specs.declared.state.State.{State}
+use Rattle.setup.specs.Refusals.{refusalCode}
+use Rattle.setup.specs.declared.refusal.Refusal.the-variants.{Unfit}
 use Rattle.setup.specs.declared.plan.Setup.{Setup}
 use Rattle.setup.specs.declared.settings.Settings.{Settings}
 use Rattle.spooling.specs.Holdings.{Shelf}
@@ -20,9 +22,9 @@ abbrev pub fitOf : Shelf → Shelf → Bool
 fitOf q s =
     eqb (length (q .records)) 0 && (eqb (length (s .records)) 0 && (leb 1 (q .limit) && (leb (q .limit) 8 && (leb 1 (s .limit) && leb (s .limit) 60000))))
 
--- the check before the start: 1 where the stores are not fit
+-- the check before the start
 abbrev pub checkOf : Shelf → Shelf → ℕ × ℕ
-checkOf q s = cond (fitOf q s) (0, 0) (1, 0)
+checkOf q s = cond (fitOf q s) (0, 0) (refusalCode Unfit, 0)
 
 -- DISABLED, EQUIPMENT OFF-LINE, the switch at REMOTE, all counts 0
 abbrev pub freshState : Setup → Settings → State

@@ -17,6 +17,8 @@ use Rattle.rules.specs.Views.{View, nextOf}
 use Rattle.rules.specs.declared.control.Expiry.{Expiry}
 use Rattle.rules.specs.declared.control.Switch.{Switch}
 use Rattle.rules.specs.declared.state.Counts.{Counts}
+use Rattle.setup.specs.Refusals.{refusalCode}
+use Rattle.setup.specs.declared.refusal.Refusal.the-variants.{CountsSpent, FrameLength, HeaderByte, ShortBuffer, ShortLedger, Unfit, Unknown}
 use Rattle.states.specs.declared.link.LinkEvent.the-variants.{Failure}
 use Rattle.gem.specs.declared.equipment.Call.{Call}
 use Rattle.gem.specs.declared.equipment.Call.the-variants as call
@@ -38,32 +40,32 @@ callOf operation.Pump frame = call.Pump
 abbrev pub refusalOf : Bool → ℕ → ℕ → Counts → Option (ℕ × ℕ)
 refusalOf fit out ledger c =
     cond fit
-    (cond (ltb out 512) (Some (2, out))
-    (cond (ltb ledger 32) (Some (3, ledger))
-    (cond (ltb 4294967000 (c .transactions) || ltb 4294967000 (c .reports)) (Some (4, 0)) None)))
-    (Some (1, 0))
+    (cond (ltb out 512) (Some (refusalCode ShortBuffer, out))
+    (cond (ltb ledger 32) (Some (refusalCode ShortLedger, ledger))
+    (cond (ltb 4294967000 (c .transactions) || ltb 4294967000 (c .reports)) (Some (refusalCode CountsSpent, 0)) None)))
+    (Some (refusalCode Unfit, 0))
 
--- a switch, refused with 5 where it is unknown
+-- a switch, refused where it is unknown
 abbrev pub switchTurn : ℕ → Option Switch → View → Turn
-switchTurn n None v = refused 5 n v
+switchTurn n None v = refused (refusalCode Unknown) n v
 switchTurn n (Some s) v = done (switched (nextOf (v .state)) s v)
 
--- an expiry, refused with 5 where it is unknown
+-- an expiry, refused where it is unknown
 abbrev pub expiryTurn : ℕ → Option Expiry → View → Turn
-expiryTurn n None v = refused 5 n v
+expiryTurn n None v = refused (refusalCode Unknown) n v
 expiryTurn n (Some e) v = done (expired (nextOf (v .state)) e v)
 
--- a frame of the host: header byte 4 or 5 that is not zero is refused with 9 and the earlier place
+-- a frame of the host: header byte 4 or 5 that is not zero is refused with the earlier place
 abbrev pub frameTurn : List ℕ → Option Parted → View → Turn
-frameTurn frame None v = refused 8 (length frame) v
+frameTurn frame None v = refused (refusalCode FrameLength) (length frame) v
 frameTurn frame (Some p) v =
-    cond (not (eqb (p .header .ptype) 0)) (refused 9 4 v)
-    (cond (not (eqb (p .header .stype) 0)) (refused 9 5 v)
+    cond (not (eqb (p .header .ptype) 0)) (refused (refusalCode HeaderByte) 4 v)
+    (cond (not (eqb (p .header .stype) 0)) (refused (refusalCode HeaderByte) 5 v)
     (frameTaken (nextOf (v .state)) (p .header) frame v))
 
--- it is refused with 8 and its length below 10 or above 490 bytes
+-- it is refused with its length below 10 or above 490 bytes
 abbrev pub hostTurn : List ℕ → View → Turn
-hostTurn frame v = cond (leb (length frame) 490) (frameTurn frame (frameAt frame) v) (refused 8 (length frame) v)
+hostTurn frame v = cond (leb (length frame) 490) (frameTurn frame (frameAt frame) v) (refused (refusalCode FrameLength) (length frame) v)
 
 -- the connection fails: an attempt to go on-line falls back
 abbrev pub failed : View → View

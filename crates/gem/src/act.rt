@@ -11,12 +11,14 @@ use frames::frame::split_frame;
 use host::take::take_frame;
 use rules::control::Expiry;
 use rules::control::Switch;
+use rules::event::Event;
 use rules::state::Core;
 use rules::state::Counts;
 use rules::state::Effects;
 use rules::state::Next;
 use rules::state::State;
 use setup::plan::Alarm;
+use setup::refusal::Refusal;
 use states::link::LinkEvent;
 use store::Store;
 
@@ -25,13 +27,13 @@ pub(crate) fn refusal(fit: bool, out: usize, ledger: usize, counts: Counts) -> O
     ensures { λ r. ⌜ r ≡ refusalOf fit out ledger counts ⌝ }
 {
     if !fit {
-        Some((1, 0))
+        Some((Refusal::Unfit.code(), 0))
     } else if out < 512 {
-        Some((2, out))
+        Some((Refusal::ShortBuffer.code(), out))
     } else if ledger < 32 {
-        Some((3, ledger))
+        Some((Refusal::ShortLedger.code(), ledger))
     } else if counts.transactions > 4_294_967_000 || counts.reports > 4_294_967_000 {
-        Some((4, 0))
+        Some((Refusal::CountsSpent.code(), 0))
     } else {
         None
     }
@@ -81,7 +83,7 @@ fn change_alarm<Q: Store, S: Store>(
     ensures after { λ _. ⌜ view Q·Store S·Store (now (core .exit)) (now (effects .exit)) ≡ alarmed number set (view Q·Store S·Store (now (core .entry)) (now (effects .entry))) .after ⌝ }
 {
     let Some(alarm) = core.state.setup.alarms.get(number) else {
-        return (5, number as usize);
+        return (Refusal::Unknown.code(), number as usize);
     };
     if alarm.set == set {
         return (0, 0);
@@ -93,7 +95,12 @@ fn change_alarm<Q: Store, S: Store>(
     };
     core.state.setup.alarms.set(number, changed);
     tell_alarm(core, number, alarm, set, effects);
-    let event = if set { 100 + number } else { 200 + number };
+    let alarm_number = number as u8;
+    let event = if set {
+        Event::AlarmSet(alarm_number)
+    } else {
+        Event::AlarmCleared(alarm_number)
+    };
     let next = next_of(&core.state);
     core.report_event(next, event, effects);
     (0, 0)
@@ -110,17 +117,17 @@ fn take_host<Q: Store, S: Store>(
     ensures after { λ _. ⌜ view Q·Store S·Store (now (core .exit)) (now (effects .exit)) ≡ hostTurn (now (frame .entry)) (view Q·Store S·Store (now (core .entry)) (now (effects .entry))) .after ⌝ }
 {
     if frame.len() > 490 {
-        return (8, frame.len());
+        return (Refusal::FrameLength.code(), frame.len());
     }
     let Some(parts) = split_frame(frame) else {
-        return (8, frame.len());
+        return (Refusal::FrameLength.code(), frame.len());
     };
     let header = parts.header;
     if header.ptype != 0 {
-        return (9, 4);
+        return (Refusal::HeaderByte.code(), 4);
     }
     if header.stype != 0 {
-        return (9, 5);
+        return (Refusal::HeaderByte.code(), 5);
     }
     let next = next_of(&core.state);
     take_frame(core, next, header, frame, effects)
@@ -137,7 +144,7 @@ fn move_switch<Q: Store, S: Store>(
     ensures after { λ _. ⌜ view Q·Store S·Store (now (core .exit)) (now (effects .exit)) ≡ switchTurn number (switchOf number) (view Q·Store S·Store (now (core .entry)) (now (effects .entry))) .after ⌝ }
 {
     let Some(switch) = Switch::from_number(number) else {
-        return (5, number as usize);
+        return (Refusal::Unknown.code(), number as usize);
     };
     let next = next_of(&core.state);
     core.switch(next, switch, effects);
@@ -155,7 +162,7 @@ fn expire_timer<Q: Store, S: Store>(
     ensures after { λ _. ⌜ view Q·Store S·Store (now (core .exit)) (now (effects .exit)) ≡ expiryTurn number (expiryOf number) (view Q·Store S·Store (now (core .entry)) (now (effects .entry))) .after ⌝ }
 {
     let Some(expiry) = Expiry::from_number(number) else {
-        return (5, number as usize);
+        return (Refusal::Unknown.code(), number as usize);
     };
     let next = next_of(&core.state);
     core.expire(next, expiry, effects);

@@ -7,6 +7,7 @@ use rules::state::Core;
 use rules::state::Counts;
 use rules::state::State;
 use setup::plan::Setup;
+use setup::refusal::Refusal;
 use setup::settings::Settings;
 use spooling::state::Reports;
 use spooling::state::Spooling;
@@ -32,7 +33,11 @@ fn is_fit<Q: Store, S: Store>(queue: &Q, spool: &S) -> bool
 pub fn check<Q: Store, S: Store>(queue: &Q, spool: &S) -> (u8, usize)
     ensures { λ r. ⌜ r ≡ checkOf (shelf Q·Store (now (queue .entry))) (shelf S·Store (now (spool .entry))) ⌝ }
 {
-    if is_fit(queue, spool) { (0, 0) } else { (1, 0) }
+    if is_fit(queue, spool) {
+        (0, 0)
+    } else {
+        (Refusal::Unfit.code(), 0)
+    }
 }
 
 impl<Q: Store, S: Store> Equipment<Q, S> {

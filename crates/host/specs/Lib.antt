@@ -1,3 +1,4 @@
+pub mod Acknowledges
 pub mod Grants
 pub mod Replies
 pub mod Takes

@@ -5,6 +5,7 @@ use mathlib.Core.List.{List}
 use lib.Dec.{eqb}
 use Rattle.std.specs.declared.option.Option.{Option}
 use Rattle.std.specs.declared.option.Option.the-variants.{Some, None}
+use Rattle.bodies.specs.Bodies.{commackAccepted}
 use Rattle.bodies.specs.declared.body.Body.the-variants as body
 use Rattle.frames.specs.declared.header.Header.{Header}
 use Rattle.requests.specs.Requests.{commackOf}
@@ -74,7 +75,7 @@ isEstablish h = eqb (h .stream) 1 && eqb (h .function) 13
 -- the host answers our S1,F13 with a COMMACK, or with a malformed S1,F14, which is discarded
 abbrev pub commackTaken : Next → Option ℕ → View → View
 commackTaken n None v = v
-commackTaken n (Some c) v = cond (eqb c 0) (linked n Accepted (withSession None v)) (linked n Denied v)
+commackTaken n (Some c) v = cond (eqb c commackAccepted) (linked n Accepted (withSession None v)) (linked n Denied v)
 
 abbrev pub isWaitCra : Link → Bool
 isWaitCra Disabled = false

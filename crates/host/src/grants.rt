@@ -1,7 +1,8 @@
 ghost use mathlib.Core.Path.{_≡_};
-ghost use Rattle.host.specs.Grants.{alarmGranted, granted, onlineGranted, purgeGranted, transmitGranted, unloadCode};
+ghost use Rattle.host.specs.Grants.{alarmGranted, granted, onlineGranted, purgeGranted, transmitGranted, unloadAnswer};
 ghost use Rattle.rules.specs.Views.{view};
 ghost use Rattle.setup.specs.Tables.{entryAt};
+use crate::acknowledge::Acknowledge;
 use bodies::body::Body;
 use frames::header::Header;
 use requests::request::Request;
@@ -22,15 +23,15 @@ fn grant_online<Q: Store, S: Store>(
 )
     ensures { λ _. ⌜ view Q·Store S·Store (now (core .exit)) (now (effects .exit)) ≡ onlineGranted next header (now (core .entry) .state .control) (view Q·Store S·Store (now (core .entry)) (now (effects .entry))) ⌝ }
 {
-    let code = match core.state.control {
+    let answer = match core.state.control {
         Control::HostOffline => {
             core.go_online(next, effects);
-            0
+            Acknowledge::OnlineAccepted
         }
-        Control::Local | Control::Remote => 2,
-        Control::EquipmentOffline | Control::Attempt => 1,
+        Control::Local | Control::Remote => Acknowledge::AlreadyOnline,
+        Control::EquipmentOffline | Control::Attempt => Acknowledge::OnlineNotAllowed,
     };
-    core.reply(header, 18, Body::Acknowledge(code), effects);
+    core.reply(header, 18, Body::Acknowledge(answer.byte()), effects);
 }
 
 // S5,F3.
@@ -44,7 +45,12 @@ fn grant_alarm<Q: Store, S: Store>(
     ensures { λ _. ⌜ view Q·Store S·Store (now (core .exit)) (now (effects .exit)) ≡ alarmGranted header enable number (entryAt (now (core .entry) .state .setup .alarms .entries) number) (view Q·Store S·Store (now (core .entry)) (now (effects .entry))) ⌝ }
 {
     match core.state.setup.alarms.get(number) {
-        None => core.reply(header, 4, Body::Acknowledge(1), effects),
+        None => core.reply(
+            header,
+            4,
+            Body::Acknowledge(Acknowledge::AlarmUnknown.byte()),
+            effects,
+        ),
         Some(alarm) => {
             let changed = Alarm {
                 category: alarm.category,
@@ -52,21 +58,26 @@ fn grant_alarm<Q: Store, S: Store>(
                 set: alarm.set,
             };
             core.state.setup.alarms.set(number, changed);
-            core.reply(header, 4, Body::Acknowledge(0), effects);
+            core.reply(
+                header,
+                4,
+                Body::Acknowledge(Acknowledge::AlarmAccepted.byte()),
+                effects,
+            );
         }
     }
 }
 
-// What S6,F23 is answered: granted 0, unloading already 1, nothing spooled 2.
-fn unload_code<Q: Store, S: Store>(core: &Core<Q, S>) -> u8
-    ensures { λ r. ⌜ r ≡ unloadCode (now (core .entry) .reports .spooling) ⌝ }
+// What S6,F23 is answered.
+fn unload_answer<Q: Store, S: Store>(core: &Core<Q, S>) -> Acknowledge
+    ensures { λ r. ⌜ r ≡ unloadAnswer (now (core .entry) .reports .spooling) ⌝ }
 {
     if !core.reports.spooling.active {
-        return 2;
+        return Acknowledge::NothingSpooled;
     }
     match core.reports.spooling.unload {
-        Unload::NoOutput => 0,
-        Unload::Transmit | Unload::Purge => 1,
+        Unload::NoOutput => Acknowledge::UnloadGranted,
+        Unload::Transmit | Unload::Purge => Acknowledge::UnloadBusy,
     }
 }
 
@@ -74,7 +85,7 @@ fn unload_code<Q: Store, S: Store>(core: &Core<Q, S>) -> u8
 fn grant_transmit<Q: Store, S: Store>(core: &mut Core<Q, S>, header: Header, effects: &mut Effects)
     ensures { λ _. ⌜ view Q·Store S·Store (now (core .exit)) (now (effects .exit)) ≡ transmitGranted header (view Q·Store S·Store (now (core .entry)) (now (effects .entry))) ⌝ }
 {
-    let code = unload_code(core);
+    let code = unload_answer(core).byte();
     if code == 0 {
         core.reports.spooling.unload = Unload::Transmit;
         core.reports.spooling.acknowledged = 0;
@@ -86,7 +97,7 @@ fn grant_transmit<Q: Store, S: Store>(core: &mut Core<Q, S>, header: Header, eff
 fn grant_purge<Q: Store, S: Store>(core: &mut Core<Q, S>, header: Header, effects: &mut Effects)
     ensures { λ _. ⌜ view Q·Store S·Store (now (core .exit)) (now (effects .exit)) ≡ purgeGranted header (view Q·Store S·Store (now (core .entry)) (now (effects .entry))) ⌝ }
 {
-    let code = unload_code(core);
+    let code = unload_answer(core).byte();
     if code == 0 {
         core.reports.spooling.unload = Unload::Purge;
     }
@@ -108,7 +119,12 @@ pub fn grant<Q: Store, S: Store>(
         Request::Establish => core.reply(header, 14, Body::Accepted, effects),
         Request::GoOffline => {
             core.go_offline(next, Control::HostOffline, effects);
-            core.reply(header, 16, Body::Acknowledge(0), effects);
+            core.reply(
+                header,
+                16,
+                Body::Acknowledge(Acknowledge::OfflineAccepted.byte()),
+                effects,
+            );
         }
         Request::GoOnline => grant_online(core, next, header, effects),
         Request::EnableAlarm { enable, alarm } => grant_alarm(core, header, enable, alarm, effects),

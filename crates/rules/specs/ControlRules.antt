@@ -18,6 +18,8 @@ use Rattle.rules.specs.declared.control.Switch.{Switch}
 use Rattle.rules.specs.declared.control.Switch.the-variants as switch
 use Rattle.rules.specs.declared.control.Expiry.{Expiry}
 use Rattle.rules.specs.declared.control.Expiry.the-variants as expiry
+use Rattle.rules.specs.declared.event.Event.{Event}
+use Rattle.rules.specs.declared.event.Event.the-variants.{LocalEntered, OnlineLeft, RemoteEntered}
 use Rattle.rules.specs.declared.state.Next.{Next}
 use Rattle.rules.specs.declared.state.SessionRequest.the-variants.{AreYouThere}
 use Rattle.rules.specs.Views.{View, withHeld, withControl, withMode}
@@ -62,17 +64,17 @@ abbrev pub fellBack : View → View
 fellBack v = fellBackAt (v .state .control) v
 
 -- the event of entering LOCAL or REMOTE
-abbrev pub modeEvent : Mode → ℕ
-modeEvent mode.Local = 2
-modeEvent mode.Remote = 3
+abbrev pub modeEvent : Mode → Event
+modeEvent mode.Local = LocalEntered
+modeEvent mode.Remote = RemoteEntered
 
 -- control goes on-line, to where the switch stands, and its event is reported after the move
 unfoldable pub wentOnline : Next → View → View
 wentOnline n v = evented n (modeEvent (v .state .mode)) (withControl (onlineAt (v .state .mode)) v)
 
--- control leaves ON-LINE: event 1 is reported before the move
+-- control leaves ON-LINE: its event is reported before the move
 unfoldable pub wentOffline : Next → Control → View → View
-wentOffline n c v = withControl c (evented n 1 v)
+wentOffline n c v = withControl c (evented n OnlineLeft v)
 
 -- an attempt to go on-line asks the host; without communication control falls back at once
 abbrev pub attemptedAt : Next → Link → View → View

@@ -1,4 +1,5 @@
 pub mod ControlRules
+pub mod Events
 pub mod LinkRules
 pub mod Reporting
 pub mod Sends

@@ -9,24 +9,25 @@ use Rattle.states.specs.Links.{linkAfter}
 use Rattle.states.specs.declared.link.Link.{Link}
 use Rattle.states.specs.declared.link.Link.the-variants.{Disabled, WaitCra, WaitDelay, Communicating}
 use Rattle.states.specs.declared.link.LinkEvent.{LinkEvent}
+use Rattle.rules.specs.declared.event.Event.the-variants.{SpoolActivated, TransmitFailed}
 use Rattle.rules.specs.declared.state.Next.{Next}
 use Rattle.rules.specs.declared.state.SessionRequest.the-variants.{Establish}
 use Rattle.rules.specs.Views.{View, withHeld, withLink, closedAll}
 use Rattle.rules.specs.Sends.{asked}
 use Rattle.rules.specs.Reporting.{evented}
 
--- a transmit that is broken off goes to no output, and event 6 is reported
+-- a transmit that is broken off goes to no output, and its event is reported
 abbrev pub stoppedAt : Next → Unload → View → View
 stoppedAt n NoOutput v = v
-stoppedAt n Transmit v = evented n 6 (withHeld (unloading NoOutput (v .held)) v)
+stoppedAt n Transmit v = evented n TransmitFailed (withHeld (unloading NoOutput (v .held)) v)
 stoppedAt n Purge v = v
 
--- an inactive spool becomes active and event 4 is reported; an active one stops a transmit
+-- an inactive spool becomes active and its event is reported; an active one stops a transmit
 abbrev pub spoolStarted : Next → View → View
 spoolStarted n v =
     cond (v .held .spooling .active)
     (stoppedAt n (v .held .spooling .unload) v)
-    (evented n 4 (withHeld (activated (v .state .settings .overwrite) (v .held)) v))
+    (evented n SpoolActivated (withHeld (activated (v .state .settings .overwrite) (v .held)) v))
 
 -- communication is lost: open transactions close, and reports go to the spool from now on
 unfoldable pub lost : Next → View → View

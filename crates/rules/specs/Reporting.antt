@@ -8,6 +8,8 @@ use Rattle.spooling.specs.Entering.{made}
 use Rattle.states.specs.Controls.{isOnline}
 use Rattle.states.specs.declared.link.Link.{Link}
 use Rattle.states.specs.declared.link.Link.the-variants.{Disabled, WaitCra, WaitDelay, Communicating}
+use Rattle.rules.specs.Events.{eventNumber}
+use Rattle.rules.specs.declared.event.Event.{Event}
 use Rattle.rules.specs.declared.state.Next.{Next}
 use Rattle.rules.specs.Views.{View, withHeld, withCounts}
 
@@ -24,8 +26,8 @@ reportMade n stream function b v =
     (withCounts (record { transactions = v .state .counts .transactions; reports = n .report }) v)
 
 -- an event is reported by S6,F11
-unfoldable pub evented : Next → ℕ → View → View
-evented n event v = cond (isOnline (v .state .control)) (reportMade n 6 11 (body.Event (n .report) event) v) v
+unfoldable pub evented : Next → Event → View → View
+evented n event v = cond (isOnline (v .state .control)) (reportMade n 6 11 (body.Event (n .report) (eventNumber event)) v) v
 
 -- an alarm is reported by S5,F1
 unfoldable pub alarmReported : Next → ℕ → ℕ → View → View

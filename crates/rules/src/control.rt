@@ -2,6 +2,7 @@ ghost use mathlib.Core.Path.{_≡_};
 ghost use Rattle.rules.specs.ControlRules.{attemptedAt, expired, expiryNumber, expiryOf, fellBack, onlineSwitched, overdueAt, switchNumber, switchOf, switched, wentOffline, wentOnline};
 ghost use Rattle.rules.specs.Views.{view};
 ghost use Rattle.rules.specs.declared.state.Effects.{Effects as Pages};
+use crate::event::Event;
 use crate::send::our_header;
 use crate::state::Core;
 use crate::state::Effects;
@@ -81,8 +82,8 @@ impl<Q: Store, S: Store> Core<Q, S> {
         let mode = self.state.mode;
         self.state.control = mode.online();
         match mode {
-            Mode::Local => self.report_event(next, 2, effects),
-            Mode::Remote => self.report_event(next, 3, effects),
+            Mode::Local => self.report_event(next, Event::LocalEntered, effects),
+            Mode::Remote => self.report_event(next, Event::RemoteEntered, effects),
         }
     }
 
@@ -90,7 +91,7 @@ impl<Q: Store, S: Store> Core<Q, S> {
     pub fn go_offline(&mut self, next: Next, control: Control, effects: &mut Effects)
         ensures { λ _. ⌜ view Q·Store S·Store (now (self .exit)) (now (effects .exit)) ≡ wentOffline next control (view Q·Store S·Store (now (self .entry)) (now (effects .entry))) ⌝ }
     {
-        self.report_event(next, 1, effects);
+        self.report_event(next, Event::OnlineLeft, effects);
         self.state.control = control;
     }
 

@@ -2,6 +2,7 @@ ghost use mathlib.Core.Path.{_≡_};
 ghost use Rattle.rules.specs.LinkRules.{linked, lost, stoppedAt, switchedOff};
 ghost use Rattle.rules.specs.Views.{closedAll, view};
 ghost use Rattle.rules.specs.declared.state.Effects.{Effects as Pages};
+use crate::event::Event;
 use crate::state::Core;
 use crate::state::Effects;
 use crate::state::Next;
@@ -26,7 +27,7 @@ impl<Q: Store, S: Store> Core<Q, S> {
     {
         if let Unload::Transmit = self.reports.spooling.unload {
             self.reports.spooling.unload = Unload::NoOutput;
-            self.report_event(next, 6, effects);
+            self.report_event(next, Event::TransmitFailed, effects);
         }
     }
 
@@ -40,7 +41,7 @@ impl<Q: Store, S: Store> Core<Q, S> {
         } else {
             let overwrite = self.state.settings.overwrite;
             self.reports.activate(overwrite, &mut effects.journal);
-            self.report_event(next, 4, effects);
+            self.report_event(next, Event::SpoolActivated, effects);
         }
     }
 

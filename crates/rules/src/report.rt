@@ -1,6 +1,7 @@
 ghost use mathlib.Core.Path.{_≡_};
 ghost use Rattle.rules.specs.Reporting.{reportMade, evented, alarmReported};
 ghost use Rattle.rules.specs.Views.{view};
+use crate::event::Event;
 use crate::state::Core;
 use crate::state::Effects;
 use crate::state::Next;
@@ -41,13 +42,13 @@ impl<Q: Store, S: Store> Core<Q, S> {
     }
 
     // Reports an event, where control is on-line.
-    pub fn report_event(&mut self, next: Next, event: u32, effects: &mut Effects)
+    pub fn report_event(&mut self, next: Next, event: Event, effects: &mut Effects)
         ensures { λ _. ⌜ view Q·Store S·Store (now (self .exit)) (now (effects .exit)) ≡ evented next event (view Q·Store S·Store (now (self .entry)) (now (effects .entry))) ⌝ }
     {
         if self.state.control.is_online() {
             let body = Body::Event {
                 report: next.report,
-                event,
+                event: event.number(),
             };
             self.make_report(next, 6, 11, body, effects);
         }

@@ -14,6 +14,8 @@ use Rattle.zone.specs.declared.variable.Variable.{Variable}
 use Rattle.setup.specs.declared.plan.Alarm.{Alarm}
 use Rattle.setup.specs.declared.plan.Setup.{Setup}
 use Rattle.setup.specs.declared.table.Table.{Table}
+use Rattle.setup.specs.Refusals.{refusalCode}
+use Rattle.setup.specs.declared.refusal.Refusal.the-variants.{Entry}
 use Rattle.setup.specs.Tables.{inTable, entryAt, withEntry}
 
 abbrev pub blankPlan : Setup
@@ -27,9 +29,9 @@ isFree t n = inTable n && not (isSome (entryAt (t .entries) n))
 abbrev pub alarmFits : ℕ → ℕ → Setup → Bool
 alarmFits n category s = isFree (s .alarms) n && leb category 127
 
--- 10 and the number at fault, or done
+-- a refusal with the number at fault, or done
 abbrev pub refusedUnless : Bool → ℕ → ℕ × ℕ
-refusedUnless b n = cond b (0, 0) (10, n)
+refusedUnless b n = cond b (0, 0) (refusalCode Entry, n)
 
 abbrev pub alarmAnswer : ℕ → ℕ → Setup → ℕ × ℕ
 alarmAnswer n category s = refusedUnless (alarmFits n category s) n
@@ -53,7 +55,7 @@ withVariable n kind s =
 
 -- the code of adding a band to a variable that may be unknown
 abbrev pub bandCode : ℕ → Bounds → Option Variable → ℕ
-bandCode n bounds None = 10
+bandCode n bounds None = refusalCode Entry
 bandCode n bounds (Some v) = answerCode (bandAnswer v n bounds)
 
 -- a refusal of a band has the band's number as its detail

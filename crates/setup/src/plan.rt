@@ -1,5 +1,6 @@
 ghost use mathlib.Core.Path.{_≡_};
 ghost use Rattle.setup.specs.Plans.{blankPlan, alarmAnswer, withAlarm, variableAnswer, withVariable, bandAnswerOf, withBandOf};
+use crate::refusal::Refusal;
 use crate::table::Table;
 use zone::variable::Bounds;
 use zone::variable::Kind;
@@ -36,7 +37,7 @@ impl Setup {
         ensures after { λ _. ⌜ now (self .exit) ≡ withAlarm number category (now (self .entry)) ⌝ }
     {
         if number < 1 || number > 32 || category > 127 || self.alarms.get(number).is_some() {
-            return (10, number as usize);
+            return (Refusal::Entry.code(), number as usize);
         }
         self.alarms.set(
             number,
@@ -55,7 +56,7 @@ impl Setup {
         ensures after { λ _. ⌜ now (self .exit) ≡ withVariable number kind (now (self .entry)) ⌝ }
     {
         if number < 1 || number > 32 || self.variables.get(number).is_some() {
-            return (10, number as usize);
+            return (Refusal::Entry.code(), number as usize);
         }
         self.variables.set(number, Variable::new(kind));
         (0, 0)
@@ -67,7 +68,7 @@ impl Setup {
         ensures after { λ _. ⌜ now (self .exit) ≡ withBandOf variable number bounds (now (self .entry)) ⌝ }
     {
         let Some(mut entry) = self.variables.get(variable) else {
-            return (10, number as usize);
+            return (Refusal::Entry.code(), number as usize);
         };
         match entry.add_band(number, bounds).code() {
             0 => {
