@@ -701,6 +701,50 @@ fn transmit_fails(rt: LibcRuntime) -> Result<(), Fail> {
     check_eq(counts, (0, 1))
 }
 
+// DISABLE leaves TRANSMIT as it is: it goes on when COMMUNICATING again.
+#[test]
+fn transmit_disabled(rt: LibcRuntime) -> Result<(), Fail> {
+    let counts = run(
+        rt.alloc(),
+        SETTINGS,
+        Stage::Online,
+        &[
+            // S1,F13 W
+            done(
+                Act::Failure,
+                b"0000001c 0007 810d 0000 00000003 0102 4106 42454e434831 4106 303030303031",
+                &[(b'M', 2)],
+            ),
+            // the host's S1,F13
+            done(Act::Host(b"0007 010d 0000 000000aa"), b"", &[]),
+            // the host's S6,F23 W; S6,F24: B 0
+            done(
+                Act::Host(b"0007 8617 0000 000000aa a50100"),
+                b"0000000d 0007 0618 0000 000000aa 210100",
+                &[],
+            ),
+            // DISABLE
+            done(Act::Switch(2), b"", &[]),
+            done(Act::Pump, b"", &[]),
+            // ENABLE; S1,F13 W
+            done(
+                Act::Switch(1),
+                b"0000001c 0007 810d 0000 00000004 0102 4106 42454e434831 4106 303030303031",
+                &[],
+            ),
+            // the host's S1,F14
+            done(Act::Host(b"0007 010e 0000 00000004 0102 210100"), b"", &[]),
+            // S6,F11 W: report 1, event 3
+            done(
+                Act::Pump,
+                b"0000001a 0007 860b 0000 00000005 0103 b10400000001 b10400000003 0100",
+                &[],
+            ),
+        ],
+    )?;
+    check_eq(counts, (0, 2))
+}
+
 // FULL ends with INACTIVE: the next activation stores again.
 #[test]
 fn full_ends(rt: LibcRuntime) -> Result<(), Fail> {
