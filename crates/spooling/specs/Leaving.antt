@@ -41,7 +41,7 @@ movedAll overwrite (r ∷ rs) h = movedAll overwrite rs (movedAt overwrite (r �
 unfoldable pub moved : Bool → Holding → Holding
 moved overwrite h = movedAll overwrite (h .queue .records) h
 
--- an inactive spool becomes active: its counts begin at 0 and it takes the queue
+-- an inactive spool becomes active: its total begins at 0 and it takes the queue
 unfoldable pub activated : Bool → Holding → Holding
 activated overwrite h =
     moved overwrite (withSpooling (record { active = true; full = h .spooling .full; unload = h .spooling .unload; total = 0; acknowledged = h .spooling .acknowledged }) h)
