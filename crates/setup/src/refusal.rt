@@ -1,7 +1,9 @@
 ghost use mathlib.Core.Path.{_≡_};
 ghost use Rattle.setup.specs.Refusals.{refusalCode};
+use zone::places::BandAnswer;
 
-// Why a call of the equipment or an adding to a setup is refused; the code is `refusalCode` of specs/Refusals.antt.
+// Why a call of the equipment or an adding to a setup is refused; the code is `refusalCode` of specs/Refusals.antt. The
+// refusals of a sample (6, 7) and of bounds (11) are those of a variable, in the crate `zone`.
 #[derive(Clone, Copy, PartialEq, Eq, Debug)]
 pub enum Refusal {
     // The stores were not fit at the start.
@@ -14,18 +16,12 @@ pub enum Refusal {
     CountsSpent,
     // No switch, expiry, alarm or variable has the number.
     Unknown,
-    // The sample is of the other kind than its variable.
-    OtherKind,
-    // The sample is not a number.
-    NotANumber,
     // The host's frame is too short or too long.
     FrameLength,
     // Header byte 4 or 5 of the host's frame is not zero.
     HeaderByte,
     // The entry is outside its range, taken already, or a band of an unknown variable.
     Entry,
-    // The bounds are of the other kind, not numbers, or not in order.
-    Bounds,
 }
 
 impl Refusal {
@@ -38,12 +34,9 @@ impl Refusal {
             Refusal::ShortLedger => 3,
             Refusal::CountsSpent => 4,
             Refusal::Unknown => 5,
-            Refusal::OtherKind => 6,
-            Refusal::NotANumber => 7,
             Refusal::FrameLength => 8,
             Refusal::HeaderByte => 9,
-            Refusal::Entry => 10,
-            Refusal::Bounds => 11,
+            Refusal::Entry => BandAnswer::NumberRefused.code(),
         }
     }
 }
