@@ -27,26 +27,11 @@ use Rattle.rules.specs.Sends.{ourHeader, asked, faulted}
 use Rattle.rules.specs.Reporting.{evented}
 use Rattle.rules.specs.LinkRules.{linked}
 
--- the number of each switch
-abbrev pub switchNumber : Switch → ℕ
-switchNumber switch.Enable = 1
-switchNumber switch.Disable = 2
-switchNumber switch.Online = 3
-switchNumber switch.Offline = 4
-switchNumber switch.Local = 5
-switchNumber switch.Remote = 6
-
 -- the switch of a number
 abbrev pub switchOf : ℕ → Option Switch
 switchOf n =
     cond (eqb n 1) (Some switch.Enable) (cond (eqb n 2) (Some switch.Disable) (cond (eqb n 3) (Some switch.Online)
     (cond (eqb n 4) (Some switch.Offline) (cond (eqb n 5) (Some switch.Local) (cond (eqb n 6) (Some switch.Remote) None)))))
-
--- the number of each expiry
-abbrev pub expiryNumber : Expiry → ℕ
-expiryNumber expiry.CommDelay = 1
-expiryNumber expiry.SessionReply = 2
-expiryNumber expiry.ReportReply = 3
 
 -- the expiry of a number
 abbrev pub expiryOf : ℕ → Option Expiry

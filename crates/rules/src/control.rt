@@ -1,5 +1,5 @@
 ghost use mathlib.Core.Path.{_≡_};
-ghost use Rattle.rules.specs.ControlRules.{attemptedAt, expired, expiryNumber, expiryOf, fellBack, onlineSwitched, overdueAt, switchNumber, switchOf, switched, wentOffline, wentOnline};
+ghost use Rattle.rules.specs.ControlRules.{attemptedAt, expired, expiryOf, fellBack, onlineSwitched, overdueAt, switchOf, switched, wentOffline, wentOnline};
 ghost use Rattle.rules.specs.Views.{view};
 ghost use Rattle.rules.specs.declared.state.Effects.{Effects as Pages};
 use crate::event::Event;
@@ -14,7 +14,7 @@ use states::link::Link;
 use states::link::LinkEvent;
 use store::Store;
 
-// The operator's switches; their numbers are `switchNumber` of specs/ControlRules.antt.
+// The operator's switches; their numbers are `switchOf` of specs/ControlRules.antt.
 #[derive(Clone, Copy, PartialEq, Eq, Debug)]
 pub enum Switch {
     Enable,
@@ -25,7 +25,7 @@ pub enum Switch {
     Remote,
 }
 
-// The timers that expire; their numbers are `expiryNumber` of specs/ControlRules.antt.
+// The timers that expire; their numbers are `expiryOf` of specs/ControlRules.antt.
 #[derive(Clone, Copy, PartialEq, Eq, Debug)]
 pub enum Expiry {
     // The delay between two attempts to establish communications.
