@@ -1,4 +1,5 @@
 // A run at the bench: one report by hand over the parts of the library, then the equipment through its public calls.
+#![tactic(auto)]
 
 mod by_hand;
 mod frames_of_host;

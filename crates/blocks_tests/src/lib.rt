@@ -1,4 +1,6 @@
 // Example runs of the block store.
+#![tactic(auto)]
+
 #[cfg(test)]
 mod damage;
 #[cfg(test)]

@@ -1,4 +1,6 @@
 // The pairs of cases at the edges of the rules, from the definitions that the calls use.
+#![tactic(auto)]
+
 ghost use Rattle.std.specs.Prelude.{◌≡◌};
 ghost use Rattle.edges.specs.Edges.{EdgePairs};
 

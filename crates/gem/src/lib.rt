@@ -1,4 +1,6 @@
 // The equipment and its calls.
+#![tactic(auto)]
+
 pub mod act;
 pub mod calls;
 pub mod equipment;

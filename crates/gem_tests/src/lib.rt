@@ -1,4 +1,6 @@
 // Example runs of the equipment through its public calls.
+#![tactic(auto)]
+
 #[cfg(test)]
 mod alarms;
 #[cfg(test)]

@@ -1,4 +1,6 @@
 // What a frame of the host does to the equipment.
+#![tactic(auto)]
+
 pub mod acknowledge;
 pub mod answers;
 pub mod grants;

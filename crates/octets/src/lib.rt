@@ -1,4 +1,6 @@
 // Bytes at a place of a lent buffer. Numbers are written and read with the highest byte first (specs/Big.antt).
+#![tactic(auto)]
+
 ghost use Rattle.std.specs.Prelude.{◌≡◌, ℕ, ◌+◌, ◌≤◌, length, if◌then◌else◌, nat_le};
 ghost use Rattle.octets.specs.Places.{placed};
 

@@ -1,4 +1,6 @@
 // Examples of items, frames and bodies.
+#![tactic(auto)]
+
 #[cfg(test)]
 mod frames_and_bodies;
 #[cfg(test)]

@@ -1,2 +1,4 @@
 // The frame that a call sends.
+#![tactic(auto)]
+
 pub mod outbox;

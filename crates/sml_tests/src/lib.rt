@@ -1,4 +1,6 @@
 // Examples of frames as text.
+#![tactic(auto)]
+
 #[cfg(test)]
 mod tests {
     use sml::render::render;

@@ -1,4 +1,6 @@
 // Stores of reports: what every make of store promises, and the ring.
+#![tactic(auto)]
+
 ghost use Rattle.std.specs.Prelude.{◌≡◌, ℕ, List, length, take, drop};
 ghost use Rattle.store.specs.Answers.{answer_number, read_answer, read_body};
 ghost use Rattle.store.specs.Reports.{Report, oldest_number, put_number, after_put, after_remove};

@@ -1,4 +1,6 @@
 // One table of steps, run over both makes of store.
+#![tactic(auto)]
+
 #[cfg(test)]
 mod tests {
     use blocks::block_store::BlockStore;

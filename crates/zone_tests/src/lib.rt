@@ -1,4 +1,6 @@
 // Example runs of bands, samples and values.
+#![tactic(auto)]
+
 #[cfg(test)]
 mod bands;
 #[cfg(test)]
