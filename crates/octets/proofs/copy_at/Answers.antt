@@ -6,5 +6,5 @@ pub returns : goal.returns
 returns c =
     record {
       fits = search rules;
-      after = placed_part c.args.out.now c.args.at _ _ c.args.bytes.now c.copy-from-slice.ensures.after (omega arith);
+      after = placed_part c.args.out.now c.args.at _ _ c.args.bytes.now c.copy_from_slice.ensures.after (omega arith);
     }

@@ -14,4 +14,4 @@ step (a ∷ (b ∷ (c ∷ (d ∷ xs)))) k = sym (ap (λ t. not t && all_numbers 
 pub loop-rest-preserved : goal.loop-rest-preserved
 loop-rest-preserved c =
     let xs = c.loop-rest.rest.now in
-    ap all_numbers (take_rest xs 4) ∙ (step xs (sym (ap is_nan c.from-be-bytes.ensures) ∙ sym c.if-is-nan.ensures) ∙ c.loop-rest.invariant)
+    ap all_numbers (take_rest xs 4) ∙ (step xs (sym (ap is_nan c.from_be_bytes.ensures) ∙ sym c.if-is_nan.ensures) ∙ c.loop-rest.invariant)
