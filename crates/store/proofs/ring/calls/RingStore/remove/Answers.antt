@@ -6,19 +6,18 @@ use Rattle.store.proofs.Turning.{ring_next, ring_wrap}
 use Rattle.store.proofs.ring.calls.RingStore.remove.Goals as goal
 use Rattle.store.proofs.ring.calls.RingStore.remove.Goals.{then-next-len, else-next-len}
 
--- the ring from the next slot on, wherever that is
-list : (c : goal.After-self-2·1) → ring_reports (vec_items c.args.self.now.slots) c.if-next-len.self (c.args.self.now.count - 1) ≡ after_remove (ring_reports (vec_items c.args.self.now.slots) c.args.self.now.first c.args.self.now.count)
-list c =
+-- the list is the ring from the next slot on, wherever that is
+pub returns : goal.returns
+returns c =
     let s = c.args.self.now in
     let shorter : ℕ = s.count - 1 in
-    elim c.if-next-len.branch [
-      | then-next-len w ↦
-          ap (λ p. ring_reports (vec_items s.slots) p shorter) w.self-is
-          ∙ ring_next (vec_items s.slots) s.first s.count (omega arith) (omega arith) (omega arith)
-      | else-next-len w ↦
-          ap (λ p. ring_reports (vec_items s.slots) p shorter) w.self-is
-          ∙ ring_wrap (vec_items s.slots) s.first s.count (omega arith) (omega arith) (omega arith)
-    ]
-
-pub returns : goal.returns
-returns c = record { list = list c; same = refl }
+    let list : ring_reports (vec_items s.slots) c.if-next-len.self shorter ≡ after_remove (ring_reports (vec_items s.slots) s.first s.count) =
+      elim c.if-next-len.branch [
+        | then-next-len w ↦
+            ap (λ p. ring_reports (vec_items s.slots) p shorter) w.self-is
+            ∙ ring_next (vec_items s.slots) s.first s.count (omega arith) (omega arith) (omega arith)
+        | else-next-len w ↦
+            ap (λ p. ring_reports (vec_items s.slots) p shorter) w.self-is
+            ∙ ring_wrap (vec_items s.slots) s.first s.count (omega arith) (omega arith) (omega arith)
+      ] in
+    record { list = list; same = refl }
