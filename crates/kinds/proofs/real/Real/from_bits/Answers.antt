@@ -6,8 +6,8 @@ use Rattle.std.specs.Bool.{fails}
 use Rattle.kinds.proofs.Reals.{none_of}
 use Rattle.kinds.proofs.real.Real.from_bits.Goals as goal
 
-pub float-from-bits-bits : goal.float-from-bits-bits
-float-from-bits-bits c = fails _ (nan_bits_above binary32 c.args.bits ∙ le-ltb _ _ (omega arith))
+pub float_from_bits-bits : goal.float_from_bits-bits
+float_from_bits-bits c = fails _ (nan_bits_above binary32 c.args.bits ∙ le-ltb _ _ (omega arith))
 
 pub returns-then-bits-gt-INFINITY : goal.returns-then-bits-gt-INFINITY
 returns-then-bits-gt-INFINITY c =
