@@ -19,12 +19,12 @@ returns c =
     let room : a.at + 14 + length body ≤ length xs = omega arith in
     let small : 10 + length body ≤ 0xffff_ffff = omega arith in
     let fits : frame_fits xs a.at body ≡ true = and_from (leb (a.at + 14 + length body) (length xs)) _ (le-leb _ _ room) (le-leb _ _ small) in
-    let one = wrote xs a.at len c.to-be-bytes.result c.copy-at.result c.copy-at.new.out (omega arith) c.to-be-bytes.ensures c.copy-at.ensures.fits c.copy-at.ensures.after in
-    let two = wrote_more xs a.at len head c.bytes.result c.copy-at-2.result (a.at + 4) c.copy-at.new.out c.copy-at-2.new.out
-    (omega arith) one refl c.bytes.ensures.value c.copy-at-2.ensures.fits c.copy-at-2.ensures.after in
+    let one = wrote xs a.at len c.to_be_bytes.result c.copy_at.result c.copy_at.new.out (omega arith) c.to_be_bytes.ensures c.copy_at.ensures.fits c.copy_at.ensures.after in
+    let two = wrote_more xs a.at len head c.bytes.result c.copy_at-2.result (a.at + 4) c.copy_at.new.out c.copy_at-2.new.out
+    (omega arith) one refl c.bytes.ensures.value c.copy_at-2.ensures.fits c.copy_at-2.ensures.after in
     let place : ◌≡◌ {A = Option ℕ} (Some (a.at + 14 + length body)) (frame_end xs a.at body) = sym (cond-true _ _ _ fits) in
     let after : c.copy-at-3.new.out ≡ frame_written xs a.at a.header body =
-    wrote_more xs a.at (len ++ head) body body c.copy-at-3.result (a.at + 14) c.copy-at-2.new.out c.copy-at-3.new.out
+    wrote_more xs a.at (len ++ head) body body c.copy-at-3.result (a.at + 14) c.copy_at-2.new.out c.copy-at-3.new.out
     room two refl refl c.copy-at-3.ensures.fits c.copy-at-3.ensures.after
     ∙ sym (cond-true _ _ _ fits) in
     record {

@@ -6,10 +6,10 @@ use Rattle.items.proofs.read.read_item.Goals as goal
 pub returns : goal.returns
 returns c =
     let frame = c.args.frame.now in
-    let r = c.read-content.result in
+    let r = c.read_content.result in
     let item : seen r ≡ item_at frame c.args.at = search rules in
     record {
       item = item;
       within = search rules;
-      shortest = shortest_back frame c.args.at r (λ i. (c.type-inv.frame i).fits) item;
+      shortest = shortest_back frame c.args.at r (λ i. (c.ok.frame i).fits) item;
     }

@@ -10,10 +10,10 @@ returns c =
     let at = c.args.at in
     let f = c.args.format in
     let content = c.args.content.now in
-    let place : c.write-parts.result ≡ item_end xs at f content = search rules in
-    let after : c.write-parts.new.out ≡ item_written xs at f content = search rules in
+    let place : c.write_parts.result ≡ item_end xs at f content = search rules in
+    let after : c.write_parts.new.out ≡ item_written xs at f content = search rules in
     record {
       place = place;
       after = after;
-      back = subst (λ ys. ItemBack ys at f content c.write-parts.result) (sym after) (subst (ItemBack (item_written xs at f content) at f content) (sym place) (value_back xs at f content));
+      back = subst (λ ys. ItemBack ys at f content c.write_parts.result) (sym after) (subst (ItemBack (item_written xs at f content) at f content) (sym place) (value_back xs at f content));
     }

@@ -9,10 +9,10 @@ returns c =
     let xs = c.args.out.now in
     let at = c.args.at in
     let n = c.args.count in
-    let place : c.write-parts.result ≡ list_end xs at n = search rules in
-    let after : c.write-parts.new.out ≡ list_written xs at n = search rules in
+    let place : c.write_parts.result ≡ list_end xs at n = search rules in
+    let after : c.write_parts.new.out ≡ list_written xs at n = search rules in
     record {
       place = place;
       after = after;
-      back = subst (λ ys. ListBack ys at n c.write-parts.result) (sym after) (subst (ListBack (list_written xs at n) at n) (sym place) (list_back xs at n));
+      back = subst (λ ys. ListBack ys at n c.write_parts.result) (sym after) (subst (ListBack (list_written xs at n) at n) (sym place) (list_back xs at n));
     }
