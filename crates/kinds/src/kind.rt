@@ -5,8 +5,7 @@ ghost use Rattle.secs.specs.Formats.{code_of, width_of};
 ghost use Rattle.secs.specs.declared.format.Format.{Format};
 ghost use Rattle.secs.specs.declared.format.Format.TheVariants as formats;
 ghost use Rattle.kinds.specs.Reals.{real_at_most, real_bits, real_of_bits};
-ghost use Rattle.kinds.specs.Wholes.{whole_bits, whole_of_bits};
-ghost use Rattle.std.proofs.Common.{rules};
+ghost use Rattle.kinds.specs.Wholes.{whole_bits, whole_of_bits, whole_total, whole_transitive};
 ghost use Rattle.std.specs.Float.Ieee.Bits.{is_true};
 ghost use Rattle.std.specs.Bool.{fails, passes};
 ghost use Rattle.std.specs.Float.Order.{le_of_lt, lt_of_not-le, le_trans};
@@ -64,9 +63,9 @@ impl ValueKind for i32 {
 
     ghost of_bits = { whole_of_bits };
 
-    ghost total = { Prim.search rules };
+    ghost total = { whole_total };
 
-    ghost transitive = { Prim.search rules };
+    ghost transitive = { whole_transitive };
 
     fn format_code() -> u8 {
         Self::CODE
