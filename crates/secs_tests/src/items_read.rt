@@ -201,7 +201,7 @@ fn values_read(rt: HostRuntime) -> Result<(), Fail> {
         Ok((text, next)) => {
             assert!(rt; text == b"Hi".as_slice() && next == 4);
             Ok(())
-        },
+        }
         Err(_) => Err(Fail::new("no text")),
     }
 }
