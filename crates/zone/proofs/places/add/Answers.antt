@@ -2,8 +2,8 @@ use Rattle.std.proofs.Common.{◌-◌, ◌<◌, length, sym, arith, rules}
 use Rattle.zone.proofs.Bands.{free_within}
 use Rattle.zone.proofs.places.add.Goals as goal
 
-pub offset-bounds-bands-number : goal.offset-bounds-bands-number
-offset-bounds-bands-number g c =
-    let h = free_within c.args.bands.now c.args.number (sym c.if-not-is-free.ensures) in
+pub offset_bounds-bands-number : goal.offset_bounds-bands-number
+offset_bounds-bands-number g c =
+    let h = free_within c.args.bands.now c.args.number (sym c.if-not-is_free.ensures) in
     let l : c.args.number - 1 < length c.args.bands.now = omega arith in
     search rules

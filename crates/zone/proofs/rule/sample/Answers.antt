@@ -7,8 +7,8 @@ use Rattle.zone.proofs.rule.sample.Goals as goal
 pub loop-place-preserved : goal.loop-place-preserved
 loop-place-preserved g c =
     pass_more g.K.ValueKind.at_most c.args.value.now c.args.bands.now c.loop-place.bands c.loop-place.place-index
-    c.place-item.result _ c.loop-place.moved c.sample-place-moved.result (omega arith) c.place-item.is
-    c.sample-place-moved.ensures.after c.sample-place-moved.ensures.moved c.loop-place.invariant.0 c.loop-place.invariant.1
+    c.place-item.result _ c.loop-place.moved c.sample_place-moved.result (omega arith) c.place-item.is
+    c.sample_place-moved.ensures.after c.sample_place-moved.ensures.moved c.loop-place.invariant.0 c.loop-place.invariant.1
 
 pub returns : goal.returns
 returns g c =

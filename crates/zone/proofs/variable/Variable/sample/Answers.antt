@@ -4,8 +4,8 @@ use Rattle.zone.specs.Variables.{AllOrdered, sample_after}
 use Rattle.zone.proofs.Orders.{sample_ordered}
 use Rattle.zone.proofs.variable.Variable.sample.Goals as goal
 
-pub returns-in-ok-value : goal.returns-in-ok-value
-returns-in-ok-value c =
+pub returns-in_ok-value-in-Whole : goal.returns-in_ok-value-in-Whole
+returns-in_ok-value-in-Whole c =
     let e : variable.Whole c.sample.new.bands ≡ sample_after c.args.self.now c.args.sample = search rules in
     record {
       answer = search rules;
@@ -13,8 +13,8 @@ returns-in-ok-value c =
       ordered = λ o. subst AllOrdered (sym e) (sample_ordered c.args.self.now c.args.sample o);
     }
 
-pub returns-in-ok-value-2 : goal.returns-in-ok-value-2
-returns-in-ok-value-2 c =
+pub returns-in_ok-value-in-Real : goal.returns-in_ok-value-in-Real
+returns-in_ok-value-in-Real c =
     let e : variable.Real c.sample-in-Real.new.bands ≡ sample_after c.args.self.now c.args.sample = search rules in
     record {
       answer = search rules;
