@@ -14,6 +14,6 @@ pub returns-in-Some : goal.returns-in-Some
 unfolding expired
 returns-in-Some g c = search rules
 
-pub returns-in-default : goal.returns-in-default
+pub returns-in_default : goal.returns-in_default
 unfolding expired
-returns-in-default g c = search rules
+returns-in_default g c = search rules

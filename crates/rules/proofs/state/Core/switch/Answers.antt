@@ -26,14 +26,14 @@ pub returns-in-Remote : goal.returns-in-Remote
 unfolding switched
 returns-in-Remote g c = search rules
 
-pub returns-in-default : goal.returns-in-default
+pub returns-in_default : goal.returns-in_default
 unfolding switched
-returns-in-default g c = search rules
+returns-in_default g c = search rules
 
 pub returns-in-Local : goal.returns-in-Local
 unfolding switched
 returns-in-Local g c = search rules
 
-pub returns-in-default-control : goal.returns-in-default-control
+pub returns-in_default-control : goal.returns-in_default-control
 unfolding switched
-returns-in-default-control g c = search rules
+returns-in_default-control g c = search rules
