@@ -1,5 +1,5 @@
 -- Steps on a store, one after another.
-use Rattle.std.specs.Prelude.{◌≡◌, ℕ, ◌<◌, ◌≤◌, List, [], ◌∷◌, length, take, drop, Some, Option}
+use Rattle.std.specs.Prelude.{◌≡◌, ℕ, ◌<◌, List, [], ◌∷◌, length, take, drop, Some, Option}
 use Rattle.store.specs.Reports.{Report, after_put, after_remove}
 use Rattle.store.specs.declared.answers.Copied.{Copied}
 use Rattle.replay.specs.declared.steps.Step.{Step}

@@ -1,7 +1,7 @@
 -- Slots in turn.
-use Rattle.std.proofs.Common.{◌≡◌, ℕ, suc, ◌+◌, ◌-◌, ◌<◌, ◌≤◌, Bool, true, false, cond, ltb, ◌⊎◌, List, [], ◌∷◌, ◌++◌, map, length, get_or, take, drop, set, sym, refl, ap, ◌∙◌, subst, ap₂, inl, inr, add-one, arith}
+use Rattle.std.proofs.Common.{◌≡◌, ℕ, suc, ◌+◌, ◌-◌, ◌<◌, ◌≤◌, List, [], ◌∷◌, ◌++◌, map, length, get_or, take, drop, set, sym, refl, ap, ◌∙◌, ap₂, inl, inr, arith}
 use lib.Seq.{take-set-lt}
-use Rattle.std.proofs.lemmas.List.{append-nil, append_assoc, length-append, length-take, length-drop, length-map, length-set, take_more, take_all, take-append-le, take_more_set, drop_more, drop_all, drop-set-lt, drop-set-add, take-set-le, set-append_left, set-append_right, get_or_append_left, get_or-append_right, get_or-drop, get_or-take, map_push, take_at}
+use Rattle.std.proofs.lemmas.List.{append-nil, append_assoc, length-append, length-take, length-drop, length-map, take_more, take_all, take-append-le, take_more_set, drop_more, drop_all, drop-set-lt, drop-set-add, take-set-le, set-append_left, set-append_right, get_or_append_left, get_or-append_right, get_or-drop, get_or-take, map_push}
 use Rattle.std.proofs.lemmas.Bool.{cond-true, cond-false, lt-ltb, le-ltb, cases_lt}
 use Rattle.store.specs.Reports.{Report, newest_number, after_remove}
 use Rattle.store.specs.Rings.{report_in, turned, slot_place, ring_reports}

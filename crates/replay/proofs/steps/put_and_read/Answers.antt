@@ -1,4 +1,4 @@
-use Rattle.std.proofs.Common.{◌≡◌, ℕ, ◌<◌, ◌≤◌, length, sym, ◌∙◌, arith}
+use Rattle.std.proofs.Common.{◌<◌, ◌≤◌, length, sym, ◌∙◌, arith}
 use Rattle.store.specs.Reports.{Report}
 use Rattle.replay.proofs.Keeping.{only_left, read_back, removed_ends}
 use Rattle.replay.proofs.steps.put_and_read.Goals as goal

@@ -1,5 +1,4 @@
-use Rattle.std.proofs.Common.{◌≡◌, List, [], ◌∷◌, ◌++◌, length}
-use Rattle.store.specs.Reports.{Report}
+use Rattle.std.proofs.Common.{◌≡◌, length}
 use Rattle.replay.proofs.Keeping.{EndsWith}
 use Rattle.replay.proofs.steps.put_and_read.Given as goal
 

@@ -1,9 +1,9 @@
-use Rattle.std.proofs.Common.{◌≡◌, ℕ, ◌+◌, ◌≤◌, List, ◌++◌, length, get_or, take, sym, refl, ap, ◌∙◌, subst, ap₂}
+use Rattle.std.proofs.Common.{◌≡◌, ℕ, ◌≤◌, List, length, get_or, take, sym, ap, ◌∙◌, subst, ap₂}
 use Rattle.std.proofs.lemmas.List.{take_more, take_all}
 use Rattle.store.specs.Reports.{Report}
 use Rattle.replay.specs.declared.steps.Step.{Step}
 use Rattle.replay.specs.declared.steps.Step.TheVariants.{Remove}
-use Rattle.replay.specs.Runs.{Rising, after_step, after_steps}
+use Rattle.replay.specs.Runs.{after_step, after_steps}
 use Rattle.replay.proofs.Keeping.{from_empty, steps_push}
 use Rattle.replay.proofs.steps.replay.Goals as goal
 
@@ -14,7 +14,7 @@ loop-step-preserved g c =
     let n = g.S.Store.limit c.args.store.now in
     let x : Step = get_or xs i Remove in
     let before = g.S.Store.records c.args.store.now in
-    let e = c.take-step.ensures in (
+    let e = c.take_step.ensures in (
       e.list
           ∙ (ap₂ (λ (k : ℕ) (l : List Report). after_step k x l) c.loop-step.invariant.1 c.loop-step.invariant.0
           ∙ (sym (steps_push n (take i xs) x before)

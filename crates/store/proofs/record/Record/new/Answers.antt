@@ -1,6 +1,5 @@
-use Rattle.std.proofs.Common.{◌≡◌, ℕ, ◌≤◌, List, length, replicate, sym, ap, ◌∙◌, arith}
-use Rattle.std.proofs.lemmas.List.{drop-replicate, length-replicate}
-use Rattle.store.specs.Reports.{Report}
+use Rattle.std.proofs.Common.{ℕ, ◌≤◌, List, length, replicate, ap, ◌∙◌, arith}
+use Rattle.std.proofs.lemmas.List.{drop-replicate}
 use Rattle.store.proofs.Copying.{copied, copied_front, copied_later}
 use Rattle.store.proofs.record.Record.new.Goals as goal
 

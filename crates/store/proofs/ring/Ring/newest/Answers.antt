@@ -1,4 +1,4 @@
-use Rattle.std.proofs.Common.{◌≡◌, ◌-◌, length, get_or, vec_items, vec_len, sym, ap, ◌∙◌, arith}
+use Rattle.std.proofs.Common.{◌≡◌, ◌-◌, length, get_or, vec_items, sym, ap, ◌∙◌, arith}
 use Rattle.store.specs.Rings.{report_in, slot_place}
 use Rattle.store.proofs.Turning.{ring_newest}
 use Rattle.store.proofs.ring.Ring.newest.Goals as goal

@@ -1,4 +1,4 @@
-use Rattle.std.proofs.Common.{vec_items, vec_len, sym, ap, ◌∙◌, arith}
+use Rattle.std.proofs.Common.{vec_items, sym, arith}
 use Rattle.store.proofs.Turning.{length_ring}
 use Rattle.store.proofs.ring.calls.RingStore.count.Goals as goal
 

@@ -1,4 +1,4 @@
-use Rattle.std.proofs.Common.{◌≡◌, ◌<◌, length, Some, vec_items, sym, ap, ◌∙◌, arith}
+use Rattle.std.proofs.Common.{Some, vec_items, sym, ap, ◌∙◌, arith}
 use Rattle.store.specs.Reports.{oldest_number}
 use Rattle.store.specs.Rings.{report_in}
 use Rattle.store.proofs.Turning.{ring_head}

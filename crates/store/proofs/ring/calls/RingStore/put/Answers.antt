@@ -1,4 +1,4 @@
-use Rattle.std.proofs.Common.{◌≡◌, ℕ, ◌+◌, ◌<◌, ◌≤◌, false, List, [], ◌∷◌, ◌++◌, length, set, vec_items, vec_len, sym, refl, ap, ◌∙◌, ap₂, arith}
+use Rattle.std.proofs.Common.{◌≡◌, ◌+◌, ◌<◌, ◌≤◌, false, [], ◌∷◌, ◌++◌, length, set, vec_items, vec_len, sym, refl, ap, ◌∙◌, arith}
 use Rattle.store.specs.Reports.{Report, newest_number, unfit}
 use Rattle.store.specs.Rings.{ring_reports, slot_place}
 use Rattle.store.proofs.Puts.{fit_report, put_full, put_taken, after_full, after_taken}

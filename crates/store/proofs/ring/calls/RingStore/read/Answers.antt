@@ -1,4 +1,4 @@
-use Rattle.std.proofs.Common.{◌≡◌, ℕ, ◌-◌, List, ◌∷◌, map, length, take, drop, vec_items, sym, ap, ◌∙◌, subst, arith}
+use Rattle.std.proofs.Common.{◌≡◌, ◌-◌, List, ◌∷◌, map, length, take, drop, vec_items, sym, ap, ◌∙◌, subst, arith}
 use Rattle.store.specs.Reports.{Report}
 use Rattle.store.specs.Answers.{read_answer, read_body}
 use Rattle.store.specs.Rings.{report_in, ring_reports}
