@@ -1,5 +1,5 @@
 -- Items of which the format and the length are known beforehand, and the values that they hold.
-use Rattle.std.specs.Prelude.{ℕ, Bool, cond, ◌&&◌, List, ℤ, Ok, Err, Result, ◌==◌, slice_index}
+use Rattle.std.specs.Prelude.{ℕ, cond, List, ℤ, Ok, Err, Result, ◌==◌, slice_index}
 use Rattle.std.proofs.Common.{to_z}
 use Rattle.std.specs.Int.{w32}
 use Rattle.std.specs.Borrow.{Bor}

@@ -1,5 +1,5 @@
 -- The host's primaries. A body begins at place 10 and is read item by item.
-use Rattle.std.specs.Prelude.{ℕ, Bool, true, false, cond, List, length, Some, None, Ok, Err, Option, Result, ◌==◌, nat_le}
+use Rattle.std.specs.Prelude.{ℕ, cond, List, length, Some, None, Ok, Err, Option, Result, ◌==◌, nat_le}
 use Rattle.secs.specs.declared.format.Format.TheVariants as format
 use Rattle.readers.specs.Values.{list_at, byte_at, word_at}
 use Rattle.readers.specs.declared.mismatch.Mismatch.{Mismatch}
@@ -7,7 +7,7 @@ use Rattle.readers.specs.declared.mismatch.Mismatch.TheVariants.{Faulty, Unexpec
 use Rattle.requests.specs.declared.request.Request.{Request}
 use Rattle.requests.specs.declared.request.Request.TheVariants.{AreYouThere, Establish, GoOffline, GoOnline, EnableAlarm, Transmit, Purge}
 use Rattle.requests.specs.declared.request.FrameFault.{FrameFault}
-use Rattle.requests.specs.declared.request.FrameFault.TheVariants.{Session, Stream, Function, BadItem, Unlisted}
+use Rattle.requests.specs.declared.request.FrameFault.TheVariants.{Stream, Function, BadItem, Unlisted}
 
 -- an item that is not the one listed, at a place
 abbrev pub fault_at : Mismatch → ℕ → FrameFault

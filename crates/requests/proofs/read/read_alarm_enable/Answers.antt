@@ -6,13 +6,13 @@ pub returns-in-Err : goal.returns-in-Err
 unfolding alarm_enable
 returns-in-Err c = search rules
 
-pub returns-in-Err-read-binary : goal.returns-in-Err-read-binary
+pub returns-in-Err-read_binary : goal.returns-in-Err-read_binary
 unfolding alarm_enable
-returns-in-Err-read-binary c = search rules
+returns-in-Err-read_binary c = search rules
 
-pub returns-in-Err-read-u4 : goal.returns-in-Err-read-u4
+pub returns-in-Err-read_u4 : goal.returns-in-Err-read_u4
 unfolding alarm_enable
-returns-in-Err-read-u4 c = search rules
+returns-in-Err-read_u4 c = search rules
 
 pub returns : goal.returns
 unfolding alarm_enable

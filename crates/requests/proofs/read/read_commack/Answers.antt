@@ -6,10 +6,10 @@ pub returns-in-Err : goal.returns-in-Err
 unfolding commack_of
 returns-in-Err c = search rules
 
-pub returns-in-Err-read-binary : goal.returns-in-Err-read-binary
+pub returns-in-Err-read_binary : goal.returns-in-Err-read_binary
 unfolding commack_of
-returns-in-Err-read-binary c = search rules
+returns-in-Err-read_binary c = search rules
 
-pub returns-in-Ok-read-binary : goal.returns-in-Ok-read-binary
+pub returns-in-Ok-read_binary : goal.returns-in-Ok-read_binary
 unfolding commack_of
-returns-in-Ok-read-binary c = search rules
+returns-in-Ok-read_binary c = search rules

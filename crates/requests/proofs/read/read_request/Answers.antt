@@ -26,22 +26,22 @@ pub returns-in-6-eq23 : goal.returns-in-6-eq23
 unfolding request_of
 returns-in-6-eq23 c = search rules
 
-pub returns-in-default : goal.returns-in-default
+pub returns-in_default : goal.returns-in_default
 unfolding request_of
-returns-in-default c = search rules
+returns-in_default c = search rules
 
 pub returns-in-1-default : goal.returns-in-1-default
 unfolding request_of
 returns-in-1-default c = search rules
 
-pub returns-in-1-default·2 : goal.returns-in-1-default·2
+pub returns-in-1-default-2 : goal.returns-in-1-default-2
 unfolding request_of
-returns-in-1-default·2 c = search rules
+returns-in-1-default-2 c = search rules
 
-pub returns-in-1-default·3 : goal.returns-in-1-default·3
+pub returns-in-1-default-3 : goal.returns-in-1-default-3
 unfolding request_of
-returns-in-1-default·3 c = search rules
+returns-in-1-default-3 c = search rules
 
-pub returns-in-1-default·4 : goal.returns-in-1-default·4
+pub returns-in-1-default-4 : goal.returns-in-1-default-4
 unfolding request_of
-returns-in-1-default·4 c = search rules
+returns-in-1-default-4 c = search rules
