@@ -13,7 +13,7 @@ fn the_block_of_number_1(rt: HostRuntime) -> Result<(), Fail> {
     expected[4] = 6;
     expected[5] = 11;
     expected[511] = 0x12;
-    assert!(rt; store.into_bytes().as_slice() == &expected);
+    assert!(rt; store.into_bytes().as_slice() == expected.as_slice());
     Ok(())
 }
 
@@ -35,7 +35,7 @@ fn capacity_1_holding_7(rt: HostRuntime) -> Result<(), Fail> {
     assert_eq!(rt; store.put(7, 6, 11, &[0; 481]).number(), 3);
     assert_eq!(rt; store.put(8, 6, 11, &[0; 480]).number(), 1);
     assert_eq!(rt; store.oldest(), Some(7));
-    assert!(rt; store.into_bytes().as_slice() == &block(7));
+    assert!(rt; store.into_bytes().as_slice() == block(7).as_slice());
     Ok(())
 }
 

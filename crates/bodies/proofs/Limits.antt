@@ -1,6 +1,5 @@
 -- No body exceeds the limit.
 use Rattle.std.proofs.Common.{lit≤}
-use Rattle.bodies.specs.declared.body.Body.{Body}
 use Rattle.bodies.specs.declared.body.Body.TheVariants as body
 use Rattle.bodies.specs.Bodies.{body_of, EveryBodyFits}
 

@@ -3,7 +3,7 @@ use Rattle.std.specs.Prelude.{ℕ, ◌≤◌, cond, List, [], ◌∷◌, ◌++�
 use Rattle.octets.specs.Big.{be4}
 use Rattle.secs.specs.declared.format.Format.TheVariants.{Binary, Ascii, U4}
 use Rattle.frames.specs.Frames.{header_bytes}
-use Rattle.bodies.specs.Items.{Item, Items, list, value, end, ◌then◌, bytes_of}
+use Rattle.bodies.specs.Items.{Item, list, value, end, ◌then◌, bytes_of}
 use Rattle.bodies.specs.declared.body.Body.{Body}
 use Rattle.bodies.specs.declared.body.Body.TheVariants as body
 

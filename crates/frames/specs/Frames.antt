@@ -1,5 +1,5 @@
 -- Frames: a header of ten bytes and a body; before them, where one is sent, their length in four bytes.
-use Rattle.std.specs.Prelude.{ℕ, ◌+◌, ◌%◌, Bool, cond, ◌&&◌, List, [], ◌∷◌, ◌++◌, length, drop, Some, None, Option, nat_le, slice_index}
+use Rattle.std.specs.Prelude.{ℕ, ◌+◌, ◌%◌, Bool, cond, ◌&&◌, List, ◌∷◌, ◌++◌, length, drop, Some, None, Option, nat_le, slice_index}
 use Rattle.octets.specs.Big.{be2, be4, num2, num4}
 use Rattle.octets.specs.Places.{placed}
 use Rattle.frames.specs.declared.header.Header.{Header}

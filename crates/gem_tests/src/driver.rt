@@ -244,7 +244,7 @@ pub(crate) enum Stage {
 }
 
 // ENABLE, and the host accepts.
-fn connect(rt: &impl Abort, equipment: &mut Equipment<Ring, Ring>) -> Result<(), Fail> {
+fn connect(rt: &impl Abort, equipment: &mut Equipment<Ring, Ring>) {
     take_steps(
         rt,
         equipment,
@@ -263,11 +263,10 @@ fn connect(rt: &impl Abort, equipment: &mut Equipment<Ring, Ring>) -> Result<(),
             ),
         ],
     );
-    Ok(())
 }
 
 // ONLINE, and the host answers.
-fn go_online(rt: &impl Abort, equipment: &mut Equipment<Ring, Ring>) -> Result<(), Fail> {
+fn go_online(rt: &impl Abort, equipment: &mut Equipment<Ring, Ring>) {
     take_steps(
         rt,
         equipment,
@@ -282,11 +281,10 @@ fn go_online(rt: &impl Abort, equipment: &mut Equipment<Ring, Ring>) -> Result<(
             ),
         ],
     );
-    Ok(())
 }
 
 // The pump sends report 1, and the host acknowledges it.
-fn send_first(rt: &impl Abort, equipment: &mut Equipment<Ring, Ring>) -> Result<(), Fail> {
+fn send_first(rt: &impl Abort, equipment: &mut Equipment<Ring, Ring>) {
     take_steps(
         rt,
         equipment,
@@ -305,21 +303,20 @@ fn send_first(rt: &impl Abort, equipment: &mut Equipment<Ring, Ring>) -> Result<
             ),
         ],
     );
-    Ok(())
 }
 
-fn bring(rt: &impl Abort, equipment: &mut Equipment<Ring, Ring>, stage: Stage) -> Result<(), Fail> {
+fn bring(rt: &impl Abort, equipment: &mut Equipment<Ring, Ring>, stage: Stage) {
     match stage {
-        Stage::Started => Ok(()),
+        Stage::Started => {}
         Stage::Communicating => connect(rt, equipment),
         Stage::Online => {
-            connect(rt, equipment)?;
-            go_online(rt, equipment)
+            connect(rt, equipment);
+            go_online(rt, equipment);
         }
         Stage::Ready => {
-            connect(rt, equipment)?;
-            go_online(rt, equipment)?;
-            send_first(rt, equipment)
+            connect(rt, equipment);
+            go_online(rt, equipment);
+            send_first(rt, equipment);
         }
     }
 }
@@ -329,10 +326,9 @@ fn bring_and_take(
     equipment: &mut Equipment<Ring, Ring>,
     stage: Stage,
     steps: &[Step<'_>],
-) -> Result<(), Fail> {
-    bring(rt, equipment, stage)?;
+) {
+    bring(rt, equipment, stage);
     take_steps(rt, equipment, steps);
-    Ok(())
 }
 
 // Runs an equipment with a queue and a spool of these capacities; answers how many reports the two hold in the end.
@@ -347,12 +343,11 @@ pub(crate) fn run_with(
     let first = slots(heap, capacities.0)?;
     let second = slots(heap, capacities.1)?;
     let mut equipment = Equipment::start(plan(), settings, Ring::new(first), Ring::new(second));
-    let outcome = bring_and_take(rt, &mut equipment, stage, steps);
+    bring_and_take(rt, &mut equipment, stage, steps);
     let (queue, spool) = equipment.into_stores();
     let counts = (queue.count(), spool.count());
     queue.into_slots();
     spool.into_slots();
-    outcome?;
     Ok(counts)
 }
 

@@ -1,8 +1,8 @@
 -- What is written is read back.
-use Rattle.std.proofs.Common.{◌≡◌, ℕ, suc, ◌+◌, ◌-◌, ◌*◌, ◌/◌, ◌%◌, ◌<◌, ◌≤◌, Bool, true, false, cond, not, eqb, ltb, leb, ◌⊎◌, List, [], ◌∷◌, ◌++◌, length, get_or, take, drop, is_some, Some, None, Ok, Err, Option, Result, sym, refl, ap, ◌∙◌, subst, inl, inr, add-zero, add_assoc, arith}
+use Rattle.std.proofs.Common.{◌≡◌, ℕ, ◌+◌, ◌-◌, ◌*◌, ◌/◌, ◌%◌, ◌<◌, ◌≤◌, true, false, cond, not, eqb, leb, List, [], ◌∷◌, ◌++◌, length, get_or, take, drop, is_some, Some, None, Ok, Err, Option, sym, refl, ap, ◌∙◌, subst, inl, inr, add-zero, arith}
 use Rattle.std.specs.List.{between}
-use Rattle.std.proofs.lemmas.List.{append-nil, append_assoc, length-append, length-drop, get_or-drop, drop-drop, take_at, take-append-drop}
-use Rattle.std.proofs.lemmas.Bool.{cond-true, cond-false, lt-ltb, le-ltb, lt-leb, eq-eqb, ne_eqb, cases_Bool, and_parts, leb-true, not-true, both_ways, true≢false}
+use Rattle.std.proofs.lemmas.List.{length-append, length-drop, get_or-drop, drop-drop, take_at, take-append-drop}
+use Rattle.std.proofs.lemmas.Bool.{cond-true, cond-false, le-ltb, lt-leb, ne_eqb, cases_Bool, and_parts, leb-true, not-true, both_ways, true≢false}
 use Rattle.octets.specs.Places.{placed}
 use Rattle.octets.proofs.Placing.{drop_placed}
 use Rattle.secs.specs.declared.format.Format.{Format}
@@ -11,8 +11,8 @@ use Rattle.secs.specs.declared.format.Format.TheVariants as format
 use Rattle.secs.specs.declared.item.Fault.TheVariants.{NoLength}
 use Rattle.secs.specs.Formats.{code_of, format_of, CodeFound}
 use Rattle.secs.specs.Elements.{is_list, content_fault}
-use Rattle.items.specs.Encode.{longest, length_size, length_bytes, head_bytes, item_bytes, place_after, fits_at, list_bytes, value_bytes, writable, item_fits, item_end, item_written, list_end, list_written}
-use Rattle.items.specs.Decode.{Reading, reading, length_at, judged, content_at, format_at, item_at}
+use Rattle.items.specs.Encode.{longest, length_size, item_bytes, place_after, fits_at, list_bytes, value_bytes, writable, item_fits, item_end, item_written, list_end, list_written}
+use Rattle.items.specs.Decode.{reading, length_at, judged, content_at, format_at, item_at}
 use Rattle.items.specs.Laws.{Holds, ListBack, ItemBack}
 use Rattle.items.proofs.Encoding.{Sized, one, two, three, sized, length_item}
 

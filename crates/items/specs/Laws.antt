@@ -1,13 +1,12 @@
 -- What is written is read back, and what is read is written back.
-use Rattle.std.specs.Prelude.{◌≡◌, ℕ, ◌+◌, ◌-◌, ◌%◌, ◌<◌, ◌≤◌, Bool, true, false, List, [], length, IfSome, IfOk, None, Ok, Option, Result, slice_index}
+use Rattle.std.specs.Prelude.{◌≡◌, ℕ, ◌+◌, ◌-◌, ◌%◌, List, [], length, IfSome, IfOk, Ok, Option, Result, slice_index}
 use Rattle.std.specs.List.{between}
 use Rattle.secs.specs.declared.format.Format.{Format}
 use Rattle.secs.specs.declared.format.Format.TheVariants as format
 use Rattle.secs.specs.declared.item.Item.{Item}
 use Rattle.secs.specs.declared.item.Fault.{Fault}
-use Rattle.secs.specs.Elements.{is_list, content_fault}
-use Rattle.items.specs.Encode.{longest, length_size, item_bytes}
-use Rattle.items.specs.Decode.{Reading, reading, item_at}
+use Rattle.items.specs.Encode.{length_size, item_bytes}
+use Rattle.items.specs.Decode.{reading, item_at}
 
 -- a frame has some bytes at a place
 abbrev pub Holds : List ℕ → ℕ → List ℕ → Type 0

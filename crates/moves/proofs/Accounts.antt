@@ -5,11 +5,11 @@ use Rattle.std.proofs.lemmas.Bool.{false≢true}
 use Rattle.store.specs.Reports.{Report}
 use Rattle.lines.specs.Letters.{is_end}
 use Rattle.lines.specs.declared.line.Letter.{Letter}
-use Rattle.lines.specs.declared.line.Letter.TheVariants.{Made, Acknowledged, SpoolAcknowledged, Dropped, Overwritten, Purged, TurnedAway}
+use Rattle.lines.specs.declared.line.Letter.TheVariants.{Made, Acknowledged, SpoolAcknowledged, Dropped, TurnedAway}
 use Rattle.lines.specs.declared.line.Line.{Line}
 use Rattle.moves.specs.Books.{AllWhole, Whole}
 use Rattle.moves.specs.Numbers.{In, is_acknowledged, is_made, is_spool_end, named, numbers, numbers_of, times, up_to}
-use Rattle.moves.proofs.Ascents.{Asc, asc_length, asc_less, asc_lower, asc_push, asc_within, named_push, numbers_append, numbers_push, times_append, up_to_more}
+use Rattle.moves.proofs.Ascents.{Asc, asc_less, asc_push, asc_within, named_push, numbers_append, numbers_push, times_append, up_to_more}
 
 abbrev pub line : Letter → ℕ → Line
 line c n = record { letter = c; number = n }

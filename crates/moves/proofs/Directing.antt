@@ -1,18 +1,16 @@
 -- A report that is directed to the spool.
-use Rattle.std.proofs.Common.{◌≡◌, ℕ, ◌+◌, ◌<◌, ◌≤◌, min, Bool, true, false, cond, not, ◌&&◌, ◌||◌, ltb, leb, List, [], ◌∷◌, ◌++◌, length, Some, None, Option, sym, refl, ap, ◌∙◌, subst, ap₂, subst₂, arith}
+use Rattle.std.proofs.Common.{◌≡◌, ℕ, ◌+◌, ◌<◌, ◌≤◌, Bool, true, false, cond, not, ◌&&◌, ◌||◌, ltb, List, [], ◌∷◌, ◌++◌, length, None, sym, refl, ap, ◌∙◌, subst, subst₂, arith}
 use Rattle.std.proofs.lemmas.List.{append_assoc, length_push}
-use Rattle.std.proofs.lemmas.Bool.{cond-true, false≢true, leb-false, leb-true, lt-ltb, or_left, or_right}
-use Rattle.lines.specs.Journals.{noted}
+use Rattle.std.proofs.lemmas.Bool.{cond-true, false≢true, leb-false, leb-true, lt-ltb, or_right}
 use Rattle.lines.specs.declared.line.Letter.{Letter}
 use Rattle.lines.specs.declared.line.Letter.TheVariants.{Overwritten, TurnedAway}
 use Rattle.lines.specs.declared.line.Line.{Line}
 use Rattle.spooling.specs.Entering.{closed_spool, directed, directing, one_more, overwritten, overwritten_at, settled, stored}
-use Rattle.spooling.specs.Holdings.{Holding, add_line, at_capacity, with_pending, with_spool}
-use Rattle.spooling.specs.declared.state.OpenReport.{OpenReport}
+use Rattle.spooling.specs.Holdings.{Holding, add_line, at_capacity, with_spool}
 use Rattle.store.specs.Reports.{Report, after_put, after_remove, oldest_number, put_number}
 use Rattle.moves.specs.Books.{OldestOpen, counted, said}
 use Rattle.moves.specs.Moves.{ToSpool, overwrites, stores, turns_away}
-use Rattle.moves.specs.Numbers.{is_acknowledged, numbers, numbers_of}
+use Rattle.moves.specs.Numbers.{is_acknowledged, numbers_of}
 use Rattle.moves.proofs.Accounts.{Accounts, all_one, asc_one, front_gone, line, plus, taken, turned}
 use Rattle.moves.proofs.Puts.{newest_below, open_closed, open_spooled, put_adds, put_taken}
 

@@ -1,5 +1,5 @@
 -- A report is made and goes its way.
-use Rattle.std.proofs.Common.{◌≡◌, ℕ, ◌+◌, ◌<◌, ◌≤◌, Bool, true, false, cond, eqb, ◌⊎◌, List, [], ◌∷◌, ◌++◌, length, Some, None, Option, sym, refl, ap, ◌∙◌, subst, subst₂, inl, inr, arith}
+use Rattle.std.proofs.Common.{◌≡◌, ℕ, ◌+◌, ◌<◌, ◌≤◌, Bool, true, false, cond, eqb, ◌⊎◌, List, [], ◌∷◌, ◌++◌, length, sym, refl, ap, ◌∙◌, subst, subst₂, inl, inr, arith}
 use Rattle.std.proofs.lemmas.List.{append_assoc, append-nil, length_push}
 use Rattle.std.proofs.lemmas.Bool.{cases_lt, cond-false, cond-true, eq-eqb, false≢true, ne_eqb}
 use Rattle.lines.specs.declared.line.Letter.TheVariants.{Dropped, Made}
@@ -7,13 +7,12 @@ use Rattle.lines.specs.declared.line.Line.{Line}
 use Rattle.spooling.specs.Entering.{directed, enqueued, made, routed}
 use Rattle.spooling.specs.Holdings.{Holding, Shelf, add_line, with_queue}
 use Rattle.states.specs.Controls.{is_online}
-use Rattle.states.specs.declared.link.Link.{Link}
 use Rattle.states.specs.declared.link.Link.TheVariants.{Disabled}
 use Rattle.store.specs.Reports.{Report, after_put, newest_number, put_number}
-use Rattle.moves.specs.Books.{Book, OldestOpen, Whole, said}
+use Rattle.moves.specs.Books.{Book, Whole, said}
 use Rattle.moves.specs.Moves.{Way, disabled, full, makes, spools, waits}
 use Rattle.moves.specs.Numbers.{is_acknowledged, numbers, numbers_of}
-use Rattle.moves.proofs.Accounts.{Accounts, line, made_one, one_dropped, plus}
+use Rattle.moves.proofs.Accounts.{line, made_one, one_dropped}
 use Rattle.moves.proofs.Ascents.{Asc, numbers_append}
 use Rattle.moves.proofs.Directing.{AccountsOf, Directed, directed_way, on_page, said_is}
 use Rattle.moves.proofs.Puts.{newest_below, open_queued, put_adds, put_full, put_taken}

@@ -1,12 +1,12 @@
 -- Reports leave queue and spool.
-use Rattle.std.proofs.Common.{◌≡◌, ℕ, ◌+◌, ◌<◌, ◌≤◌, Bool, true, false, cond, ◌⊎◌, List, [], ◌∷◌, ◌++◌, length, Some, None, Option, sym, refl, ap, ◌∙◌, subst, subst₂, inl, inr, arith}
+use Rattle.std.proofs.Common.{◌≡◌, ℕ, ◌+◌, ◌≤◌, Bool, true, false, List, [], ◌∷◌, ◌++◌, length, Some, None, Option, sym, refl, ap, ◌∙◌, subst, subst₂, arith}
 use Rattle.std.proofs.lemmas.List.{length_push}
-use Rattle.std.proofs.lemmas.Bool.{cases_Bool, false≢true}
+use Rattle.std.proofs.lemmas.Bool.{false≢true}
 use Rattle.lines.specs.declared.line.Letter.TheVariants.{Acknowledged, Dropped, Purged, SpoolAcknowledged}
 use Rattle.lines.specs.declared.line.Line.{Line}
 use Rattle.spooling.specs.Entering.{directed, one_more}
 use Rattle.spooling.specs.Holdings.{Holding, Shelf, add_line, with_pending, with_queue, with_spool, with_spooling}
-use Rattle.spooling.specs.Leaving.{acknowledged, acknowledged_at, acknowledged_from, activated, deactivated, dropped, dropped_all, dropped_at, moved, moved_all, moved_at, purged_at, queue_acked_at, spool_acked_at}
+use Rattle.spooling.specs.Leaving.{acknowledged, acknowledged_at, acknowledged_from, activated, deactivated, dropped, dropped_all, dropped_at, moved, moved_all, purged_at, queue_acked_at, spool_acked_at}
 use Rattle.spooling.specs.declared.state.OpenReport.{OpenReport}
 use Rattle.spooling.specs.declared.state.Source.{Source}
 use Rattle.spooling.specs.declared.state.Source.TheVariants.{Queue, Spool}
@@ -15,8 +15,8 @@ use Rattle.spooling.specs.declared.state.Unload.TheVariants.{NoOutput, Transmit,
 use Rattle.states.specs.declared.control.Control.{Control}
 use Rattle.states.specs.declared.link.Link.{Link}
 use Rattle.store.specs.Reports.{Report, after_remove, oldest_number}
-use Rattle.moves.specs.Books.{Book, OldestOpen, OpensFirst, OpensFrom, said, unloads, with_held}
-use Rattle.moves.specs.Moves.{Move, Moves, acknowledges, acknowledges_spooled, activates, closes, deactivates, directs, drops, goes, halts, opens, opens_spooled, purges, stays, turns}
+use Rattle.moves.specs.Books.{Book, OldestOpen, OpensFirst, OpensFrom, unloads, with_held}
+use Rattle.moves.specs.Moves.{Move, Moves, acknowledges, acknowledges_spooled, activates, closes, deactivates, directs, drops, halts, opens, opens_spooled, purges, stays, turns}
 use Rattle.moves.specs.Numbers.{is_spool_end, numbers_of}
 use Rattle.moves.proofs.Accounts.{Accounts, front_gone, line, one_dropped, plus, queue_acknowledged, recounted, spool_acknowledged}
 use Rattle.moves.proofs.Accounts.{activated as activated-accounts, deactivated as deactivated-accounts}

@@ -1,8 +1,7 @@
 -- What a put answers to the next report, and what becomes of an open one.
-use Rattle.std.proofs.Common.{◌≡◌, ℕ, ◌+◌, ◌<◌, ◌≤◌, Bool, true, false, cond, ◌||◌, eqb, ltb, leb, ◌⊎◌, List, [], ◌∷◌, ◌++◌, length, Some, None, Option, sym, refl, ap, ◌∙◌, subst, inl, inr, arith}
+use Rattle.std.proofs.Common.{◌≡◌, ℕ, ◌<◌, ◌≤◌, false, eqb, ltb, leb, List, [], ◌∷◌, ◌++◌, length, Some, None, Option, sym, refl, ◌∙◌, subst, inl, inr, arith}
 use Rattle.std.proofs.lemmas.Bool.{cond-false, cond-true, eq-eqb, le-leb, le-ltb, lt-leb, ne_eqb, or_from}
 use Rattle.bodies.proofs.Limits.{every_body_fits}
-use Rattle.bodies.specs.Bodies.{body_of}
 use Rattle.bodies.specs.declared.body.Body.TheVariants as body
 use Rattle.spooling.specs.Entering.{closed_spool, unless_from}
 use Rattle.spooling.specs.declared.state.OpenReport.{OpenReport}

@@ -1,5 +1,5 @@
 -- What holds between two moves of a run.
-use Rattle.std.proofs.Common.{◌≡◌, ℕ, ◌+◌, ◌<◌, ◌≤◌, Bool, true, false, List, [], ◌∷◌, ◌++◌, length, sym, refl, ap, ◌∙◌, subst, arith}
+use Rattle.std.proofs.Common.{◌≡◌, ℕ, ◌+◌, ◌≤◌, Bool, true, List, [], length, arith}
 use Rattle.lines.specs.declared.line.Line.{Line}
 use Rattle.moves.specs.Books.{Book, OldestOpen}
 use Rattle.moves.specs.Moves.{Move, Moves, goes, stays}

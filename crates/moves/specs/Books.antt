@@ -1,9 +1,8 @@
 -- What the life of a report touches.
-use Rattle.std.specs.Prelude.{◌≡◌, ℕ, ◌+◌, Bool, true, false, ◌||◌, ◌⊎◌, List, [], ◌∷◌, ◌++◌, Some, None, Option}
+use Rattle.std.specs.Prelude.{◌≡◌, ℕ, ◌+◌, ◌||◌, ◌⊎◌, List, [], ◌∷◌, ◌++◌, Some, None, Option}
 use Rattle.bodies.specs.Bodies.{body_of}
 use Rattle.bodies.specs.declared.body.Body.TheVariants as body
 use Rattle.lines.specs.declared.line.Letter.{Letter}
-use Rattle.lines.specs.declared.line.Line.{Line}
 use Rattle.spooling.specs.Holdings.{Holding, at_capacity, with_spooling}
 use Rattle.spooling.specs.declared.state.OpenReport.{OpenReport}
 use Rattle.spooling.specs.declared.state.Source.{Source}

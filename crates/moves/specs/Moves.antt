@@ -1,13 +1,12 @@
 -- The life of a report, move by move. No move is cut short: every line is written, every count rises by one, a put to the spool
 -- answers 0 and a put to the queue 0 or 1.
-use Rattle.std.specs.Prelude.{◌≡◌, ℕ, ◌+◌, Bool, true, false, ◌||◌, List, [], ◌∷◌, ◌++◌, Some, None, Option, ◌≢◌}
+use Rattle.std.specs.Prelude.{◌≡◌, ◌+◌, Bool, true, false, ◌||◌, List, [], ◌∷◌, ◌++◌, Some, None, ◌≢◌}
 use Rattle.lines.specs.declared.line.Letter.TheVariants.{Made, Acknowledged, SpoolAcknowledged, Dropped, Overwritten, Purged, TurnedAway}
 use Rattle.spooling.specs.Entering.{closed_spool}
 use Rattle.spooling.specs.Holdings.{Holding, at_capacity, with_pending, with_queue, with_spool, with_spooling}
 use Rattle.spooling.specs.Leaving.{deactivated}
 use Rattle.spooling.specs.declared.state.OpenReport.{OpenReport}
 use Rattle.spooling.specs.declared.state.Source.TheVariants.{Queue, Spool}
-use Rattle.spooling.specs.declared.state.Unload.{Unload}
 use Rattle.spooling.specs.declared.state.Unload.TheVariants.{NoOutput, Transmit, Purge}
 use Rattle.states.specs.Controls.{is_online}
 use Rattle.states.specs.declared.control.Control.{Control}

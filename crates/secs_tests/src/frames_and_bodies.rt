@@ -30,7 +30,7 @@ fn frame_apart(rt: HostRuntime) -> Result<(), Fail> {
     match split_frame(&[1, 2, 0x86, 11, 0, 0, 0, 0, 0, 1, 0x21, 1, 0]) {
         Some(frame) => {
             assert_eq!(rt; frame.header, header(true, 6, 11, 1));
-            assert!(rt; frame.body == [0x21, 1, 0]);
+            assert!(rt; frame.body == [0x21, 1, 0].as_slice());
             Ok(())
         }
         None => Err(Fail::new("no frame")),

@@ -199,9 +199,9 @@ fn values_read(rt: HostRuntime) -> Result<(), Fail> {
     );
     match read_ascii(&[0x41, 0x02, 0x48, 0x69], 0) {
         Ok((text, next)) => {
-            assert!(rt; text == b"Hi" && next == 4);
+            assert!(rt; text == b"Hi".as_slice() && next == 4);
             Ok(())
-        },
+        }
         Err(_) => Err(Fail::new("no text")),
     }
 }

@@ -1,9 +1,9 @@
 -- A frame at the front of a buffer.
-use Rattle.std.proofs.Common.{◌≡◌, ℕ, ◌+◌, ◌-◌, ◌<◌, ◌≤◌, Bool, true, false, cond, ◌&&◌, leb, List, [], ◌∷◌, ◌++◌, length, take, drop, Some, None, Option, sym, refl, ap, ◌∙◌, subst, ap₂, arith}
-use Rattle.std.proofs.lemmas.List.{length-append, take_at}
+use Rattle.std.proofs.Common.{◌≡◌, ℕ, ◌+◌, ◌≤◌, Bool, true, false, cond, ◌&&◌, leb, List, ◌++◌, length, take, drop, Some, None, sym, refl, ap, ◌∙◌, ap₂, arith}
+use Rattle.std.proofs.lemmas.List.{take_at}
 use Rattle.std.proofs.lemmas.Bool.{le-leb, cond-true}
 use Rattle.octets.specs.Places.{placed}
-use Rattle.frames.specs.Frames.{frame_of, frame_fits, frame_end, frame_written, header_bytes}
+use Rattle.frames.specs.Frames.{frame_of, frame_fits, frame_end, frame_written}
 use Rattle.frames.specs.declared.header.Header.{Header}
 use Rattle.sending.specs.Sending.{on_buffer}
 

@@ -1,5 +1,5 @@
 -- The frame that a call sends.
-use Rattle.std.specs.Prelude.{ℕ, List, [], ◌∷◌, ◌++◌, length, take, drop, Some, None, Option}
+use Rattle.std.specs.Prelude.{ℕ, List, [], ◌++◌, length, take, drop, Some, None, Option}
 use Rattle.frames.specs.Frames.{frame_of}
 use Rattle.frames.specs.declared.header.Header.{Header}
 use Rattle.sending.specs.declared.outbox.Outbox.{Outbox}

@@ -1,5 +1,5 @@
 -- The loops over the queue: each turn leaves the same to be done.
-use Rattle.std.proofs.Common.{◌≡◌, ℕ, ◌+◌, ◌-◌, ◌<◌, ◌≤◌, Bool, true, false, cond, not, ◌&&◌, List, [], ◌∷◌, length, take, Some, None, Option, sym, refl, ap, ◌∙◌, subst, ap₂, arith}
+use Rattle.std.proofs.Common.{◌≡◌, ℕ, ◌-◌, ◌<◌, Bool, true, false, cond, not, ◌&&◌, List, [], ◌∷◌, length, take, Some, None, Option, sym, refl, ap, ◌∙◌, ap₂, arith}
 use Rattle.store.specs.Reports.{Report, oldest_number, after_remove}
 use Rattle.store.specs.declared.answers.Copied.{Copied}
 use Rattle.store.proofs.Reading.{Read}

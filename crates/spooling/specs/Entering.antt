@@ -1,12 +1,11 @@
 -- How reports come into the queue and the spool.
-use Rattle.std.specs.Prelude.{ℕ, ◌+◌, min, Bool, true, false, cond, not, ◌&&◌, ◌||◌, List, [], ◌∷◌, Some, None, Option, ◌==◌}
+use Rattle.std.specs.Prelude.{ℕ, ◌+◌, min, Bool, cond, not, ◌&&◌, ◌||◌, Some, None, Option, ◌==◌}
 use Rattle.store.specs.Reports.{Report, oldest_number, put_number, after_put, after_remove}
 use Rattle.lines.specs.declared.line.Letter.TheVariants.{Made, Dropped, Overwritten, TurnedAway}
-use Rattle.spooling.specs.declared.state.Spooling.{Spooling}
 use Rattle.spooling.specs.declared.state.Source.{Source}
 use Rattle.spooling.specs.declared.state.Source.TheVariants.{Queue, Spool}
 use Rattle.spooling.specs.declared.state.OpenReport.{OpenReport}
-use Rattle.spooling.specs.Holdings.{Shelf, Holding, with_queue, with_spool, with_spooling, with_pending, add_line, at_capacity}
+use Rattle.spooling.specs.Holdings.{Holding, with_queue, with_spool, with_spooling, with_pending, add_line, at_capacity}
 
 -- a count that stops at the largest 32-bit number
 abbrev pub one_more : ℕ → ℕ

@@ -1,5 +1,5 @@
 -- All that the rules on reports read and change.
-use Rattle.std.specs.Prelude.{ℕ, Bool, List, length, Some, None, Option, nat_le}
+use Rattle.std.specs.Prelude.{ℕ, Bool, List, length, Option, nat_le}
 use Rattle.store.specs.Reports.{Report}
 use Rattle.store.specs.declared.Store.{Ghosts}
 use Rattle.lines.specs.Journals.{lines_of, noted}
@@ -7,8 +7,6 @@ use Rattle.lines.specs.declared.line.Letter.{Letter}
 use Rattle.lines.specs.declared.line.Line.{Line}
 use Rattle.lines.specs.declared.journal.Journal.{Journal}
 use Rattle.spooling.specs.declared.state.Spooling.{Spooling}
-use Rattle.spooling.specs.declared.state.Source.{Source}
-use Rattle.spooling.specs.declared.state.Source.TheVariants.{Queue, Spool}
 use Rattle.spooling.specs.declared.state.OpenReport.{OpenReport}
 use Rattle.spooling.specs.declared.state.Reports.{Reports}
 

@@ -1,10 +1,9 @@
 -- How reports leave the queue and the spool.
-use Rattle.std.specs.Prelude.{ℕ, Bool, true, false, cond, List, [], ◌∷◌, Some, None, Option}
+use Rattle.std.specs.Prelude.{ℕ, Bool, true, false, List, [], ◌∷◌, Some, None, Option}
 use Rattle.store.specs.Reports.{Report, oldest_number, after_remove}
 use Rattle.lines.specs.declared.line.Letter.TheVariants.{Acknowledged, SpoolAcknowledged, Dropped, Purged}
-use Rattle.spooling.specs.declared.state.Spooling.{Spooling}
 use Rattle.spooling.specs.declared.state.Unload.{Unload}
-use Rattle.spooling.specs.declared.state.Unload.TheVariants.{NoOutput, Transmit, Purge}
+use Rattle.spooling.specs.declared.state.Unload.TheVariants.{NoOutput, Transmit}
 use Rattle.spooling.specs.declared.state.Source.{Source}
 use Rattle.spooling.specs.declared.state.Source.TheVariants.{Queue, Spool}
 use Rattle.spooling.specs.declared.state.OpenReport.{OpenReport}

@@ -15,12 +15,12 @@ returns c =
     let l = body_long b c.requires.used c.requires.room in
     let h = (parts_of b c.requires.used).1 in
     let room : 480 ≤ length xs = omega arith in
-    let copy = copied xs r.body c.copy-at.new.out c.copy-at.result (omega arith) c.copy-at.ensures.fits c.copy-at.ensures.after in
+    let copy = copied xs r.body c.copy_at.new.out c.copy_at.result (omega arith) c.copy_at.ensures.fits c.copy_at.ensures.after in
     let told : ℕ → Option Copied = λ n. Some (record { number = n; stream = get_or b 4 0; function = get_or b 5 0; length = num2 b 6 }) in
     record {
-      answer = ap told c.from-be-bytes-number.ensures ∙ read_answer_lem r [] xs c.copy-at.new.out room copy (num2 b 6) (sym l);
-      body = read_body_lem r [] xs c.copy-at.new.out room copy;
-      later = read_later r [] xs c.copy-at.new.out room copy;
+      answer = ap told c.from_be_bytes-number.ensures ∙ read_answer_lem r [] xs c.copy_at.new.out room copy (num2 b 6) (sym l);
+      body = read_body_lem r [] xs c.copy_at.new.out room copy;
+      later = read_later r [] xs c.copy_at.new.out room copy;
     }
 
 pub returns-then-buffer-lt-BODY : goal.returns-then-buffer-lt-BODY
@@ -34,5 +34,5 @@ returns-then-buffer-lt-BODY c =
       later = refl;
     }
 
-pub slice-bounds-copy-at-end : goal.slice-bounds-copy-at-end
-slice-bounds-copy-at-end c = let h = (parts_of c.args.block.now c.requires.used).1 in omega arith
+pub slice_bounds-copy_at-end : goal.slice_bounds-copy_at-end
+slice_bounds-copy_at-end c = let h = (parts_of c.args.block.now c.requires.used).1 in omega arith

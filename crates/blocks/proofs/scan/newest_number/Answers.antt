@@ -16,7 +16,7 @@ loop-place-preserved c =
     let a = c.loop-place.most in
     let h : i < length bs = omega (arith, length_blocks c.args.count c.args.bytes.now) in
     let later = newest_number (by_number (drop (i + 1) bs)) in
-    ap (λ n. max n later) (c.max-most.ensures ∙ ap (max a) c.number-at.ensures)
+    ap (λ n. max n later) (c.max-most.ensures ∙ ap (max a) c.number_at.ensures)
     ∙ (sym (ap (max a) (newest_step bs i h (intact_drop i bs c.requires.whole)) ∙ max_turn a (number_in (get_or bs i [])) later) ∙ c.loop-place.invariant)
 
 pub returns : goal.returns

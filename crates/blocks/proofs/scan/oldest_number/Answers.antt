@@ -13,7 +13,7 @@ loop-place-preserved c =
     let a = c.loop-place.least in
     let h : i < length bs = omega (arith, length_blocks c.args.count c.args.bytes.now) in
     let later = first_number (by_number (drop (i + 1) bs)) in
-    ap (λ n. lower n later) (c.lower-of-least.ensures ∙ ap (lower a) c.number-at.ensures)
+    ap (λ n. lower n later) (c.lower_of-least.ensures ∙ ap (lower a) c.number_at.ensures)
     ∙ (sym (ap (lower a) (first_step bs i h (intact_drop i bs c.requires.whole)) ∙ lower_turn a (number_in (get_or bs i [])) later) ∙ c.loop-place.invariant)
 
 least_is : (bs : List (List ℕ)) (i a : ℕ) → length bs ≤ i → lower a (first_number (by_number (drop i bs))) ≡ first_number (by_number bs) → first_number (by_number bs) ≡ a

@@ -4,12 +4,12 @@ use Rattle.blocks.proofs.Cutting.{length_blocks}
 use Rattle.blocks.proofs.Scanning.{place_hit, place_miss, place_end}
 use Rattle.blocks.proofs.scan.place_of.Goals as goal
 
-pub returns-then-number-at-number : goal.returns-then-number-at-number
-returns-then-number-at-number c =
+pub returns-then-number_at-number : goal.returns-then-number_at-number
+returns-then-number_at-number c =
     let bs = blocks_of c.args.count c.args.bytes.now in
     let i = c.loop-place.place in
     let h : i < length bs = omega (arith, length_blocks c.args.count c.args.bytes.now) in
-    let e = place_hit bs i h c.args.number (sym c.number-at.ensures ∙ c.if-number-at-number.true) in
+    let e = place_hit bs i h c.args.number (sym c.number_at.ensures ∙ c.if-number_at-number.true) in
     omega (arith, c.loop-place.invariant)
 
 pub loop-place-preserved : goal.loop-place-preserved
@@ -17,7 +17,7 @@ loop-place-preserved c =
     let bs = blocks_of c.args.count c.args.bytes.now in
     let i = c.loop-place.place in
     let h : i < length bs = omega (arith, length_blocks c.args.count c.args.bytes.now) in
-    let e = place_miss bs i h c.args.number (λ x. c.if-number-at-number.false (c.number-at.ensures ∙ x)) in
+    let e = place_miss bs i h c.args.number (λ x. c.if-number_at-number.false (c.number_at.ensures ∙ x)) in
     omega (arith, c.loop-place.invariant)
 
 pub returns : goal.returns

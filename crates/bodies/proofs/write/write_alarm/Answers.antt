@@ -1,4 +1,4 @@
-use Rattle.std.proofs.Common.{◌≡◌, List, [], ◌∷◌, ◌++◌, codes, sym, refl, ◌∙◌, arith}
+use Rattle.std.proofs.Common.{[], ◌∷◌, ◌++◌, arith}
 use Rattle.octets.specs.Big.{be4}
 use Rattle.octets.proofs.Writing.{none_written, then_written, last_written}
 use Rattle.items.specs.Encode.{list_bytes, value_bytes}
@@ -12,8 +12,8 @@ returns c =
     let b1 = value_bytes Binary (c.args.alcd ∷ []) in
     let b2 = value_bytes U4 (be4 c.args.alarm) in
     let b3 = value_bytes Ascii [] in
-    let w0 = then_written xs 0 ([]) b0 xs c.write-list.new.out 0 c.in-ok-at.at (none_written xs 0) (omega arith) c.in-ok-at.ensures.place c.in-ok-at.ensures.after in
-    let w1 = then_written xs 0 (b0) b1 c.write-list.new.out c.write-binary.new.out c.in-ok-at.at c.in-ok-at-2.at w0 (omega arith) c.in-ok-at-2.ensures.place c.in-ok-at-2.ensures.after in
-    let w2 = then_written xs 0 ((b0 ++ b1)) b2 c.write-binary.new.out c.write-u4.new.out c.in-ok-at-2.at c.in-ok-at-3.at w1 (omega arith) c.in-ok-at-3.ensures.place c.in-ok-at-3.ensures.after in
-    let z = last_written xs 0 (((b0 ++ b1) ++ b2)) b3 c.write-u4.new.out c.write-ascii.new.out c.in-ok-at-3.at c.write-ascii.result w2 (omega arith) c.write-ascii.ensures.place c.write-ascii.ensures.after in
+    let w0 = then_written xs 0 ([]) b0 xs c.write_list.new.out 0 c.in_ok-at.at (none_written xs 0) (omega arith) c.in_ok-at.ensures.place c.in_ok-at.ensures.after in
+    let w1 = then_written xs 0 (b0) b1 c.write_list.new.out c.write_binary.new.out c.in_ok-at.at c.in_ok-at-2.at w0 (omega arith) c.in_ok-at-2.ensures.place c.in_ok-at-2.ensures.after in
+    let w2 = then_written xs 0 ((b0 ++ b1)) b2 c.write_binary.new.out c.write_u4.new.out c.in_ok-at-2.at c.in_ok-at-3.at w1 (omega arith) c.in_ok-at-3.ensures.place c.in_ok-at-3.ensures.after in
+    let z = last_written xs 0 (((b0 ++ b1) ++ b2)) b3 c.write_u4.new.out c.write_ascii.new.out c.in_ok-at-3.at c.write_ascii.result w2 (omega arith) c.write_ascii.ensures.place c.write_ascii.ensures.after in
     record { place = z.0; after = z.1 }

@@ -1,4 +1,4 @@
-use Rattle.std.proofs.Common.{◌≡◌, ℕ, ◌≤◌, true, cond, leb, length, take, drop, IfSome, Some, None, sym, refl, ap, ◌∙◌, subst, arith}
+use Rattle.std.proofs.Common.{◌≡◌, length, take, IfSome, sym, refl, ap, ◌∙◌, subst, arith}
 use Rattle.std.proofs.lemmas.List.{take_at}
 use Rattle.std.proofs.lemmas.Bool.{cond-true, cond-false, le-leb, lt-leb}
 use Rattle.bodies.specs.Bodies.{body_of}
@@ -24,9 +24,9 @@ returns c =
     let n = c.length.ensures.value in
     let long = le-leb (length bs) (length c.args.out.now) (omega arith) in
     record {
-      place = c.write-items.ensures.place ∙ sym (cond-true _ _ _ long);
-      after = c.write-items.ensures.after ∙ sym (cond-true _ _ _ long);
-      front = subst (λ r. IfSome r (λ n. take n c.write-items.new.out ≡ bs)) (sym c.write-items.ensures.place)
-          (ap (take (length bs)) c.write-items.ensures.after ∙ take_at bs _ (length bs) refl);
-      surely = λ h. c.write-items.ensures.place;
+      place = c.write_items.ensures.place ∙ sym (cond-true _ _ _ long);
+      after = c.write_items.ensures.after ∙ sym (cond-true _ _ _ long);
+      front = subst (λ r. IfSome r (λ n. take n c.write_items.new.out ≡ bs)) (sym c.write_items.ensures.place)
+          (ap (take (length bs)) c.write_items.ensures.after ∙ take_at bs _ (length bs) refl);
+      surely = λ h. c.write_items.ensures.place;
     }

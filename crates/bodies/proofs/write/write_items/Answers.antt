@@ -2,21 +2,21 @@ use Rattle.std.proofs.Common.{rules}
 use Rattle.bodies.specs.Bodies.{body_of}
 use Rattle.bodies.proofs.write.write_items.Goals as goal
 
-pub write-identity-requires : goal.write-identity-requires
+pub write_identity-requires : goal.write_identity-requires
 unfolding body_of
-write-identity-requires c = search rules
+write_identity-requires c = search rules
 
-pub write-accepted-requires : goal.write-accepted-requires
+pub write_accepted-requires : goal.write_accepted-requires
 unfolding body_of
-write-accepted-requires c = search rules
+write_accepted-requires c = search rules
 
-pub write-alarm-requires : goal.write-alarm-requires
+pub write_alarm-requires : goal.write_alarm-requires
 unfolding body_of
-write-alarm-requires c = search rules
+write_alarm-requires c = search rules
 
-pub write-event-requires : goal.write-event-requires
+pub write_event-requires : goal.write_event-requires
 unfolding body_of
-write-event-requires c = search rules
+write_event-requires c = search rules
 
 pub returns-in-Empty : goal.returns-in-Empty
 unfolding body_of

@@ -1,4 +1,4 @@
-use Rattle.std.proofs.Common.{◌≡◌, ◌-◌, ◌%◌, ◌≤◌, true, leb, length, get_or, take, drop, Some, None, Option, sym, ap, ◌∙◌, arith}
+use Rattle.std.proofs.Common.{◌≡◌, ◌-◌, ◌%◌, ◌≤◌, leb, length, get_or, take, drop, Some, Option, sym, ◌∙◌, arith}
 use Rattle.std.proofs.lemmas.List.{take_rest}
 use Rattle.std.proofs.lemmas.Bool.{cond-true, le-leb, ltb-false}
 use Rattle.frames.specs.declared.header.Header.{Header}
@@ -25,4 +25,4 @@ returns c =
     } in
     let p : Parted = record { header = h; body = take (length xs - 10) (drop 10 xs) } in
     let e : ◌≡◌ {A = Option Parted} (Some p) (frame_at xs) = (cc) ∙ sym (cond-true (leb 10 (length xs)) _ _ w) in
-    record { parts = e; back = parts_back xs p (λ i. (c.ok.frame i).fits) (sym e) }
+    record { parts = e; back = parts_back xs p (λ i. (c.type_inv.frame i).fits) (sym e) }

@@ -1,9 +1,8 @@
-use Rattle.std.proofs.Common.{◌≡◌, ℕ, ◌+◌, ◌≤◌, true, leb, List, ◌++◌, length, Some, None, Option, sym, refl, ap, ◌∙◌, subst, arith, rules}
+use Rattle.std.proofs.Common.{◌≡◌, ℕ, ◌+◌, ◌≤◌, true, leb, ◌++◌, length, Some, Option, sym, refl, ◌∙◌, subst, arith, rules}
 use Rattle.std.proofs.lemmas.Bool.{cond-true, and_from, le-leb}
 use Rattle.octets.specs.Big.{be4}
 use Rattle.octets.proofs.Writing.{wrote, wrote_more}
 use Rattle.frames.specs.Frames.{header_bytes, frame_of, frame_fits, frame_end, frame_written}
-use Rattle.frames.specs.declared.header.Header.{Header}
 use Rattle.frames.specs.Laws.{WrittenBack}
 use Rattle.frames.proofs.RoundTrips.{frame_whole, written_back}
 use Rattle.frames.proofs.frame.write_frame.Goals as goal
@@ -23,9 +22,9 @@ returns c =
     let two = wrote_more xs a.at len head c.bytes.result c.copy_at-2.result (a.at + 4) c.copy_at.new.out c.copy_at-2.new.out
     (omega arith) one refl c.bytes.ensures.value c.copy_at-2.ensures.fits c.copy_at-2.ensures.after in
     let place : ◌≡◌ {A = Option ℕ} (Some (a.at + 14 + length body)) (frame_end xs a.at body) = sym (cond-true _ _ _ fits) in
-    let after : c.copy-at-3.new.out ≡ frame_written xs a.at a.header body =
-    wrote_more xs a.at (len ++ head) body body c.copy-at-3.result (a.at + 14) c.copy_at-2.new.out c.copy-at-3.new.out
-    room two refl refl c.copy-at-3.ensures.fits c.copy-at-3.ensures.after
+    let after : c.copy_at-3.new.out ≡ frame_written xs a.at a.header body =
+    wrote_more xs a.at (len ++ head) body body c.copy_at-3.result (a.at + 14) c.copy_at-2.new.out c.copy_at-3.new.out
+    room two refl refl c.copy_at-3.ensures.fits c.copy_at-3.ensures.after
     ∙ sym (cond-true _ _ _ fits) in
     record {
       place = place;

@@ -11,5 +11,5 @@ returns c =
     record {
       item = item;
       within = search rules;
-      shortest = shortest_back frame c.args.at r (λ i. (c.ok.frame i).fits) item;
+      shortest = shortest_back frame c.args.at r (λ i. (c.type_inv.frame i).fits) item;
     }

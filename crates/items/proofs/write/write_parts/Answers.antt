@@ -1,7 +1,7 @@
-use Rattle.std.proofs.Common.{◌≡◌, ◌+◌, ◌≤◌, true, length, Some, None, sym, refl, ap, ◌∙◌, arith}
+use Rattle.std.proofs.Common.{◌≡◌, ◌+◌, ◌≤◌, true, length, Some, sym, refl, ap, ◌∙◌, arith}
 use Rattle.std.proofs.lemmas.Bool.{cond-true, and_from, le-leb}
 use Rattle.octets.proofs.Writing.{wrote, wrote_more}
-use Rattle.items.specs.Encode.{head_bytes, item_bytes, length_size, longest, fits_at}
+use Rattle.items.specs.Encode.{head_bytes, item_bytes, longest, fits_at}
 use Rattle.items.proofs.Encoding.{length_head, length_item}
 use Rattle.items.proofs.write.write_parts.Goals as goal
 

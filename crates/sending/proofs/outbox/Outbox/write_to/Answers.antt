@@ -14,13 +14,13 @@ returns-in-Some c =
     let b = take s.size s.body in
     let z : s.size - 0 ≡ s.size = omega arith in
     let short : length b ≤ 480 = omega (arith, length-take s.size s.body) in
-    let w = c.write-frame.ensures in
+    let w = c.write_frame.ensures in
     let bytes : Option Header → List ℕ = λ o. frame_bytes (sent_with o b) in
     record {
       answer =
-          subst (λ (o : Option Header). c.write-frame.result ≡ cond (leb (length (bytes o)) (length out)) (Some (length (bytes o))) None) (sym c.in-Some.is)
+          subst (λ (o : Option Header). c.write_frame.result ≡ cond (leb (length (bytes o)) (length out)) (Some (length (bytes o))) None) (sym c.in-Some.is)
           (w.place ∙ (ap (λ n. frame_end out 0 (take n s.body)) z ∙ frame_answer out h b short));
       after =
-          subst (λ (o : Option Header). c.write-frame.new.out ≡ cond (leb (length (bytes o)) (length out)) (on_buffer (bytes o) out) out) (sym c.in-Some.is)
+          subst (λ (o : Option Header). c.write_frame.new.out ≡ cond (leb (length (bytes o)) (length out)) (on_buffer (bytes o) out) out) (sym c.in-Some.is)
           (w.after ∙ (ap (λ n. frame_written out 0 h (take n s.body)) z ∙ frame_after out h b short));
     }

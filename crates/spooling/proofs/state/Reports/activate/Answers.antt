@@ -3,4 +3,4 @@ use Rattle.spooling.proofs.state.Reports.activate.Goals as goal
 
 pub returns : goal.returns
 unfolding activated
-returns g c = c.move-queue.ensures
+returns g c = c.move_queue.ensures

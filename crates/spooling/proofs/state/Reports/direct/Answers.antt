@@ -6,6 +6,6 @@ pub returns-then-not-overwrite : goal.returns-then-not-overwrite
 unfolding directed
 returns-then-not-overwrite g c = search rules
 
-pub returns-after-at-capacity : goal.returns-after-at-capacity
+pub returns-after-at_capacity : goal.returns-after-at_capacity
 unfolding directed
-returns-after-at-capacity g c = search rules
+returns-after-at_capacity g c = search rules

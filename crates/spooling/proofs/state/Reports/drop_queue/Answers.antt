@@ -16,4 +16,4 @@ loop-number-preserved g c =
 pub returns : goal.returns
 returns g c =
     let h = holding g.Q.Store g.S.Store c.loop-number.self c.loop-number.journal in
-    sym (drop_end h (sym c.oldest.ensures ∙ c.in-default.is)) ∙ c.loop-number.invariant
+    sym (drop_end h (sym c.oldest.ensures ∙ c.in_default.is)) ∙ c.loop-number.invariant

@@ -21,15 +21,15 @@ returns-then-number-eq0 c =
     let a = put_unfit (held_in n xs) n r bad in
     record { answer = sym a; list = refused_list n xs r 3 a refl; same = refl; bytes = refused_bytes n xs r 3 a refl }
 
-pub returns-then-number-newest-number : goal.returns-then-number-newest-number
-returns-then-number-newest-number c =
+pub returns-then-number-newest_number : goal.returns-then-number-newest_number
+returns-then-number-newest_number c =
     let st = c.args.self.now in
     let n = st.blocks in
     let xs = vec_items st.bytes in
     let r : Report = record { number = c.args.number; stream = c.args.stream; function = c.args.function; body = c.args.body.now } in
     let fit = fit_report r (positive r.number c.if-number-eq0.false) c.if-body-gt-BODY.false in
-    let newest = c.newest-number.ensures ∙ ap (λ x. newest_number (held_in n x)) c.as-slice-bytes.ensures.value in
-    let a = put_stale (held_in n xs) n r fit (omega (arith, c.if-number-newest-number.true)) in
+    let newest = c.newest_number.ensures ∙ ap (λ x. newest_number (held_in n x)) c.as_slice-bytes.ensures.value in
+    let a = put_stale (held_in n xs) n r fit (omega (arith, c.if-number-newest_number.true)) in
     record { answer = sym a; list = refused_list n xs r 2 a refl; same = refl; bytes = refused_bytes n xs r 2 a refl }
 
 pub returns-then-place-self : goal.returns-then-place-self
@@ -39,28 +39,33 @@ returns-then-place-self c =
     let xs = vec_items st.bytes in
     let r : Report = record { number = c.args.number; stream = c.args.stream; function = c.args.function; body = c.args.body.now } in
     let fit = fit_report r (positive r.number c.if-number-eq0.false) c.if-body-gt-BODY.false in
-    let v = c.as-slice-bytes.ensures.value in
-    let newest = c.newest-number.ensures ∙ ap (λ x. newest_number (held_in n x)) v in
-    let place = c.place-of-place.ensures ∙ ap (λ x. 0 + place_of 0 (blocks_of n x)) v in
-    let full = full_list n xs (sound_store st) c.place-of-place.result place c.if-place-self.true in
-    let a = put_full (held_in n xs) n r fit (omega (arith, c.if-number-newest-number.false)) full in
+    let v = c.as_slice-bytes.ensures.value in
+    let newest = c.newest_number.ensures ∙ ap (λ x. newest_number (held_in n x)) v in
+    let place = c.place_of-place.ensures ∙ ap (λ x. 0 + place_of 0 (blocks_of n x)) v in
+    let full = full_list n xs (sound_store st) c.place_of-place.result place c.if-place-self.true in
+    let a = put_full (held_in n xs) n r fit (omega (arith, c.if-number-newest_number.false)) full in
     record { answer = sym a; list = refused_list n xs r 1 a refl; same = refl; bytes = refused_bytes n xs r 1 a refl }
 
-pub invariant-of-self : goal.invariant-of-self
-invariant-of-self c =
+pub invariant_of-self : goal.invariant_of-self
+invariant_of-self c =
     let st = c.args.self.now in
     let n = st.blocks in
     let xs = vec_items st.bytes in
     let r : Report = record { number = c.args.number; stream = c.args.stream; function = c.args.function; body = c.args.body.now } in
     let fit = fit_report r (positive r.number c.if-number-eq0.false) c.if-body-gt-BODY.false in
-    let t : Taken n xs c.write-at.new.bytes r =
-    taken n xs c.as-slice-bytes.result.now c.deref-mut.result.now c.write-at.new.bytes r c.newest-number.result c.place-of-place.result
-    (sound_store st) c.as-slice-bytes.ensures.value c.deref-mut.ensures.value fit (omega arith)
-    c.newest-number.ensures c.if-number-newest-number.false c.place-of-place.ensures c.if-place-self.false c.write-at.ensures in
-    let items = with_items_is st.bytes c.write-at.new.bytes (omega arith) in
+    let t : Taken n xs c.write_at.new.bytes r =
+    taken n xs c.as_slice-bytes.result.now c.deref_mut.result.now c.write_at.new.bytes r c.newest_number.result c.place_of-place.result
+    (sound_store st) c.as_slice-bytes.ensures.value c.deref_mut.ensures.value fit (omega arith)
+    c.newest_number.ensures c.if-number-newest_number.false c.place_of-place.ensures c.if-place-self.false c.write_at.ensures in
+    let items = with_items_is st.bytes c.write_at.new.bytes (omega arith) in
     let s = t.sound in
     let room = s.room in
-    (omega arith, (ap (λ x. intact (blocks_of n x)) items ∙ s.whole, (ap (λ x. distinct (blocks_of n x)) items ∙ s.apart, (ap capacity_of items ∙ s.anew, tt))))
+    record {
+      room = omega arith;
+      whole = ap (λ x. intact (blocks_of n x)) items ∙ s.whole;
+      apart = ap (λ x. distinct (blocks_of n x)) items ∙ s.apart;
+      anew = ap capacity_of items ∙ s.anew;
+    }
 
 pub returns : goal.returns
 returns c =
@@ -69,9 +74,9 @@ returns c =
     let xs = vec_items st.bytes in
     let r : Report = record { number = c.args.number; stream = c.args.stream; function = c.args.function; body = c.args.body.now } in
     let fit = fit_report r (positive r.number c.if-number-eq0.false) c.if-body-gt-BODY.false in
-    let t : Taken n xs c.write-at.new.bytes r =
-    taken n xs c.as-slice-bytes.result.now c.deref-mut.result.now c.write-at.new.bytes r c.newest-number.result c.place-of-place.result
-    (sound_store st) c.as-slice-bytes.ensures.value c.deref-mut.ensures.value fit (omega arith)
-    c.newest-number.ensures c.if-number-newest-number.false c.place-of-place.ensures c.if-place-self.false c.write-at.ensures in
-    let items = with_items_is st.bytes c.write-at.new.bytes (omega arith) in
+    let t : Taken n xs c.write_at.new.bytes r =
+    taken n xs c.as_slice-bytes.result.now c.deref_mut.result.now c.write_at.new.bytes r c.newest_number.result c.place_of-place.result
+    (sound_store st) c.as_slice-bytes.ensures.value c.deref_mut.ensures.value fit (omega arith)
+    c.newest_number.ensures c.if-number-newest_number.false c.place_of-place.ensures c.if-place-self.false c.write_at.ensures in
+    let items = with_items_is st.bytes c.write_at.new.bytes (omega arith) in
     record { answer = sym t.answer; list = ap (held_in n) items ∙ t.list; same = refl; bytes = items ∙ t.bytes }
