@@ -1,11 +1,10 @@
 -- Adding to a setup. An answer is a code and a detail: 0 and 0, or a refusal with the number at fault, which changes nothing.
-use Rattle.std.specs.Prelude.{ℕ, Bool, true, false, cond, not, ◌&&◌, ◌||◌, replicate, is_some, Some, None, Option, ◌==◌, nat_le}
+use Rattle.std.specs.Prelude.{ℕ, Bool, true, false, cond, not, ◌&&◌, replicate, is_some, Some, None, Option, ◌==◌, nat_le}
 use Rattle.zone.specs.Places.{answer_code}
 use Rattle.zone.specs.Variables.{empty_of, band_answer, with_band}
 use Rattle.zone.specs.declared.variable.Bounds.{Bounds}
 use Rattle.zone.specs.declared.variable.Kind.{Kind}
 use Rattle.zone.specs.declared.variable.Variable.{Variable}
-use Rattle.setup.specs.declared.plan.Alarm.{Alarm}
 use Rattle.setup.specs.declared.plan.Setup.{Setup}
 use Rattle.setup.specs.declared.table.Table.{Table}
 use Rattle.setup.specs.Refusals.{refusal_code}
