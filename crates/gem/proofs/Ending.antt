@@ -1,9 +1,7 @@
 -- Each call ends in exactly one way.
-use Rattle.std.proofs.Common.{◌≡◌, ℕ, ◌+◌, ◌%◌, ◌<◌, ◌≤◌, Bool, true, false, cond, not, ◌&&◌, ◌||◌, eqb, ltb, leb, List, [], length, Some, None, Ok, Err, Option, Result, sym, refl, ap, ◌∙◌, subst, arith, Bor}
-use Rattle.actions.specs.Pumps.{pumped}
+use Rattle.std.proofs.Common.{◌≡◌, ℕ, ◌%◌, ◌≤◌, Bool, true, false, cond, not, ◌||◌, eqb, ltb, leb, List, [], length, Some, None, Ok, Err, Option, Result, refl, ap, ◌∙◌, arith, Bor}
 use Rattle.actions.specs.Samples.{refused, sample_taken, sampled, sampled_at}
 use Rattle.frames.specs.Frames.{Parted, frame_at}
-use Rattle.frames.specs.declared.header.Header.{Header}
 use Rattle.host.specs.Grants.{granted}
 use Rattle.host.specs.Replies.{reply_taken, wait_taken}
 use Rattle.host.specs.Takes.{Turn, done, frame_taken, link_taken, primary_taken, request_taken, session_taken, taken_offline, told}
@@ -37,7 +35,7 @@ use Rattle.lines.specs.declared.line.Line.{Line}
 use Rattle.rules.specs.declared.state.Core.{Core}
 use Rattle.sending.specs.Sending.{frame_bytes, on_buffer}
 use Rattle.store.specs.declared.Store.{Ghosts}
-use Rattle.gem.specs.Endings.{Done, Ended, OneOf, Refused, Told, first, second, third}
+use Rattle.gem.specs.Endings.{Done, Ended, Refused, Told, first, second, third}
 use Rattle.gem.specs.Turns.{expiry_turn, frame_turn, host_turn, refusal_of, switch_turn, turn_of}
 
 either : (P : Turn → Type 0) (b : Bool) (x y : Turn) → P x → P y → P (cond b x y)

@@ -1,5 +1,5 @@
 -- A call: its answer, and the equipment, the output buffer and the ledger after it.
-use Rattle.std.specs.Prelude.{◌≡◌, ℕ, ◌≤◌, Bool, List, [], length, Some, None, Option}
+use Rattle.std.specs.Prelude.{◌≡◌, ℕ, Bool, List, [], length, Some, None, Option}
 use Rattle.actions.specs.Samples.{refused}
 use Rattle.host.specs.Takes.{Turn}
 use Rattle.lines.specs.Journals.{on_ledger}

@@ -1,5 +1,5 @@
 -- How a call ends: done, told or refused.
-use Rattle.std.specs.Prelude.{◌≡◌, ℕ, ◌≤◌, Bool, List, Some, None, Option}
+use Rattle.std.specs.Prelude.{◌≡◌, ℕ, ◌≤◌, List, Some, None, Option}
 use Rattle.frames.specs.Frames.{Parted, frame_at}
 use Rattle.host.specs.Takes.{Turn}
 use Rattle.requests.specs.Faults.{fault_code, fault_place, fault_function}

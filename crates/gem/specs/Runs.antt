@@ -1,5 +1,5 @@
 -- Runs: calls on one equipment, one after another, each starting from what the one before it left, and each with buffers of its own.
-use Rattle.std.specs.Prelude.{◌≡◌, ℕ, Bool, cond, not, ◌&&◌, List, [], ◌∷◌, ◌++◌, None}
+use Rattle.std.specs.Prelude.{◌≡◌, Bool, cond, not, ◌&&◌, List, [], ◌∷◌, ◌++◌, None}
 use Rattle.lines.specs.declared.line.Line.{Line}
 use Rattle.rules.specs.Views.{View}
 use Rattle.rules.specs.declared.state.Core.{Core}

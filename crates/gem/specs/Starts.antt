@@ -1,5 +1,5 @@
 -- The start of an equipment.
-use Rattle.std.specs.Prelude.{ℕ, Bool, true, false, cond, ◌&&◌, length, None, ◌==◌, nat_le}
+use Rattle.std.specs.Prelude.{ℕ, Bool, false, cond, ◌&&◌, length, None, ◌==◌, nat_le}
 use Rattle.rules.specs.declared.state.State.{State}
 use Rattle.setup.specs.Refusals.{refusal_code}
 use Rattle.setup.specs.declared.refusal.Refusal.TheVariants.{Unfit}
