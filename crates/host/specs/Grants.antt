@@ -1,5 +1,5 @@
 -- What the host's requests do.
-use Rattle.std.specs.Prelude.{ℕ, Bool, true, false, cond, Some, None, Option, ◌==◌}
+use Rattle.std.specs.Prelude.{ℕ, Bool, cond, Some, None, Option, ◌==◌}
 use Rattle.bodies.specs.declared.body.Body.TheVariants as body
 use Rattle.frames.specs.declared.header.Header.{Header}
 use Rattle.host.specs.Acknowledges.{acknowledge_byte, acknowledging}

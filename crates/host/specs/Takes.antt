@@ -1,5 +1,5 @@
 -- A frame of the host, in the order of the rules.
-use Rattle.std.specs.Prelude.{ℕ, ◌%◌, Bool, true, false, cond, not, ◌&&◌, ◌||◌, List, Ok, Err, Result, ◌==◌}
+use Rattle.std.specs.Prelude.{ℕ, ◌%◌, Bool, cond, ◌&&◌, ◌||◌, List, Ok, Err, Result, ◌==◌}
 use Rattle.bodies.specs.declared.body.Body.TheVariants as body
 use Rattle.frames.specs.declared.header.Header.{Header}
 use Rattle.requests.specs.Faults.{fault_code, fault_place, fault_function}
@@ -14,7 +14,7 @@ use Rattle.states.specs.Controls.{is_online}
 use Rattle.states.specs.declared.link.Link.{Link}
 use Rattle.states.specs.declared.link.Link.TheVariants.{Disabled, WaitCra, WaitDelay, Communicating}
 use Rattle.host.specs.Grants.{granted}
-use Rattle.host.specs.Replies.{is_establish, reply_taken, wait_taken}
+use Rattle.host.specs.Replies.{reply_taken, wait_taken}
 
 -- what a call answers, and all that it changed
 pub record Turn : Type 0 where

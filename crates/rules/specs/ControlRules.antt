@@ -1,5 +1,5 @@
 -- The control state, the operator's switches and the expiries.
-use Rattle.std.specs.Prelude.{ℕ, Bool, true, false, cond, Some, None, Option, ◌==◌}
+use Rattle.std.specs.Prelude.{ℕ, true, cond, Some, None, Option, ◌==◌}
 use Rattle.spooling.specs.Holdings.{with_pending}
 use Rattle.spooling.specs.declared.state.OpenReport.{OpenReport}
 use Rattle.states.specs.Controls.{online_at, fallback_state}

@@ -1,6 +1,5 @@
 -- What a move of the communications state brings with it.
-use Rattle.std.specs.Prelude.{ℕ, Bool, true, false, cond}
-use Rattle.spooling.specs.Holdings.{Holding}
+use Rattle.std.specs.Prelude.{cond}
 use Rattle.spooling.specs.Leaving.{activated, unloading, dropped}
 use Rattle.spooling.specs.declared.state.Unload.{Unload}
 use Rattle.spooling.specs.declared.state.Unload.TheVariants.{NoOutput, Transmit, Purge}

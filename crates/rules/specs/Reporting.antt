@@ -1,5 +1,5 @@
 -- Reports are made only on-line.
-use Rattle.std.specs.Prelude.{ℕ, ◌+◌, Bool, true, false, cond}
+use Rattle.std.specs.Prelude.{ℕ, Bool, true, false, cond}
 use Rattle.bodies.specs.Bodies.{body_of}
 use Rattle.bodies.specs.declared.body.Body.{Body}
 use Rattle.bodies.specs.declared.body.Body.TheVariants as body

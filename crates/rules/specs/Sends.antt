@@ -1,5 +1,5 @@
 -- Frames that the equipment sends.
-use Rattle.std.specs.Prelude.{ℕ, Bool, true, false, cond, Some, None, Option}
+use Rattle.std.specs.Prelude.{ℕ, Bool, true, false, cond, Some}
 use Rattle.bodies.specs.Bodies.{body_of}
 use Rattle.bodies.specs.declared.body.Body.{Body}
 use Rattle.bodies.specs.declared.body.Body.TheVariants as body

@@ -1,5 +1,5 @@
 -- All that the rules read and change.
-use Rattle.std.specs.Prelude.{ℕ, ◌+◌, Bool, true, false, Some, None, Option}
+use Rattle.std.specs.Prelude.{◌+◌, None, Option}
 use Rattle.store.specs.declared.Store.{Ghosts}
 use Rattle.spooling.specs.Holdings.{Holding, holding, with_pending}
 use Rattle.sending.specs.Sending.{Sent, sent_by}

@@ -1,5 +1,5 @@
 -- The text of several items, by what the first of them is.
-use Rattle.std.proofs.Common.{◌≡◌, ℕ, zero, suc, ◌-◌, ◌<◌, ◌≤◌, Bool, true, false, cond, List, [], ◌∷◌, ◌++◌, Some, None, Ok, Err, codes, Option, Result, sym, refl, ap, ◌∙◌, subst, arith}
+use Rattle.std.proofs.Common.{◌≡◌, ℕ, suc, true, false, List, [], ◌++◌, Some, None, Ok, Err, codes, Option, Result, sym, refl, ap, ◌∙◌}
 use Rattle.std.proofs.lemmas.Bool.{cond-true, cond-false}
 use Rattle.secs.specs.Elements.{is_list}
 use Rattle.secs.specs.declared.format.Format.{Format}
@@ -7,7 +7,7 @@ use Rattle.secs.specs.declared.format.Format.TheVariants as format
 use Rattle.secs.specs.declared.item.Fault.{Fault}
 use Rattle.items.specs.Decode.{Reading, item_at}
 use Rattle.sml.specs.Texts.{value_text, open_text, fault_text}
-use Rattle.sml.specs.Nested.{Shown, shown, follow, around, item_shown, several, items_shown}
+use Rattle.sml.specs.Nested.{shown, follow, around, item_shown, items_shown}
 
 pub none_deep : (depth : ℕ) (frame : List ℕ) (n a : ℕ) → depth ≡ 0 → items_shown depth frame n a ≡ shown (codes " ...") None
 unfolding items_shown

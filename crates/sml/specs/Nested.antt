@@ -1,5 +1,5 @@
 -- The text of items, lists with their items in them.
-use Rattle.std.specs.Prelude.{ℕ, zero, suc, Bool, cond, List, [], ◌∷◌, ◌++◌, length, Some, None, Ok, Err, codes, Option, Result, nat_lt}
+use Rattle.std.specs.Prelude.{ℕ, zero, suc, cond, List, [], ◌++◌, length, Some, None, Ok, Err, codes, Option, Result, nat_lt}
 use Rattle.frames.specs.Frames.{Parted, frame_at}
 use Rattle.secs.specs.Elements.{is_list}
 use Rattle.secs.specs.declared.item.Fault.{Fault}

@@ -2,9 +2,9 @@ use Rattle.std.proofs.Common.{rules}
 use Rattle.actions.specs.Samples.{sampled}
 use Rattle.actions.proofs.sample.take_sample.Goals as goal
 
-pub returns-in-default : goal.returns-in-default
+pub returns-in_default : goal.returns-in_default
 unfolding sampled
-returns-in-default g c = search rules
+returns-in_default g c = search rules
 
 pub returns-in-Err : goal.returns-in-Err
 unfolding sampled

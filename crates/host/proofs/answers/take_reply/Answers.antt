@@ -6,10 +6,10 @@ pub returns-in-Some : goal.returns-in-Some
 unfolding reply_taken
 returns-in-Some g c = search rules
 
-pub returns-then-answers-report : goal.returns-then-answers-report
+pub returns-then-answers_report : goal.returns-then-answers_report
 unfolding reply_taken
-returns-then-answers-report g c = search rules
+returns-then-answers_report g c = search rules
 
-pub returns-else-answers-report : goal.returns-else-answers-report
+pub returns-else-answers_report : goal.returns-else-answers_report
 unfolding reply_taken
-returns-else-answers-report g c = search rules
+returns-else-answers_report g c = search rules

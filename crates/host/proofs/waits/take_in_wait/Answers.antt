@@ -6,9 +6,9 @@ pub returns-then-header-eq13 : goal.returns-then-header-eq13
 unfolding wait_taken
 returns-then-header-eq13 g c = search rules
 
-pub returns-then-answers-session : goal.returns-then-answers-session
+pub returns-then-answers_session : goal.returns-then-answers_session
 unfolding wait_taken
-returns-then-answers-session g c = search rules
+returns-then-answers_session g c = search rules
 
 pub returns-else-waits : goal.returns-else-waits
 unfolding wait_taken

@@ -1,48 +1,48 @@
-use Rattle.std.proofs.Common.{◌≡◌, ℕ, suc, ◌+◌, ◌-◌, List, [], ◌∷◌, ◌++◌, Some, None, string_bytes, codes, Option, sym, refl, ap, ◌∙◌, subst, arith}
+use Rattle.std.proofs.Common.{◌≡◌, suc, ◌+◌, ◌-◌, ◌++◌, Some, None, string_bytes, codes, sym, refl, ap, ◌∙◌, arith}
 use Rattle.std.proofs.lemmas.List.{append_assoc}
 use Rattle.secs.specs.Elements.{is_list}
-use Rattle.items.specs.Decode.{Reading, reading}
-use Rattle.sml.specs.Texts.{value_text, open_text, fault_text}
+use Rattle.items.specs.Decode.{reading}
+use Rattle.sml.specs.Texts.{value_text, open_text}
 use Rattle.sml.specs.Nested.{Shown, items_shown}
 use Rattle.sml.proofs.Steps.{piece_more, piece_none, three_pieces}
 use Rattle.sml.proofs.Nesting.{none_deep, none_left, first_fault, first_value, list_shown, not_list}
 use Rattle.sml.proofs.body.+push_items.Goals as goal
-use Rattle.sml.proofs.body.+push_items.Goals.{in-List+in-ok-push-open+in-ok-next+in-Some+in-ok-push-str-2, in-default-format+in-ok-push-value}
+use Rattle.sml.proofs.body.+push_items.Goals.{in-List+in_ok-push_open+in_ok-next+in-Some+in_ok-push_str-2, in_default-format+in_ok-push_value}
 
 pub returns-then-depth-eq0 : goal.returns-then-depth-eq0
 returns-then-depth-eq0 t c =
     let a = c.args in
     let e = none_deep a.depth a.frame.now a.count a.at c.if-depth-eq0.true in
     record {
-      bytes = c.in-ok-push-str.ensures.bytes ∙ ap (λ (s : Shown). string_bytes a.text.now ++ s.text) (sym e);
+      bytes = c.in_ok-push_str.ensures.bytes ∙ ap (λ (s : Shown). string_bytes a.text.now ++ s.text) (sym e);
       place = sym (ap (λ (s : Shown). s.next) e);
     }
 
-pub returns-in-default : goal.returns-in-default
-returns-in-default t c =
+pub returns-in_default : goal.returns-in_default
+returns-in_default t c =
     let a = c.args in
     let l = c.loop-turn in
     let deep : a.depth ≡ suc (a.depth - 1) = omega arith in
-    let more : a.count - l.-turn ≡ suc (a.count - (l.-turn + 1)) = omega arith in
-    let f = first_fault a.depth (a.depth - 1) a.frame.now (a.count - l.-turn) (a.count - (l.-turn + 1)) l.place deep more c.in-default.field-0 (sym c.in-default.ensures.item) in
+    let more : a.count - l._turn ≡ suc (a.count - (l._turn + 1)) = omega arith in
+    let f = first_fault a.depth (a.depth - 1) a.frame.now (a.count - l._turn) (a.count - (l._turn + 1)) l.place deep more c.in_default.field-0 (sym c.in_default.ensures.item) in
     record {
-      bytes = c.in-ok-push-fault.ensures ∙ (ap (λ (s : Shown). string_bytes l.text ++ s.text) (sym f) ∙ l.invariant.0);
+      bytes = c.in_ok-push_fault.ensures ∙ (ap (λ (s : Shown). string_bytes l.text ++ s.text) (sym f) ∙ l.invariant.0);
       place = sym (ap (λ (s : Shown). s.next) f) ∙ l.invariant.1;
     }
 
-pub returns-in-default-2 : goal.returns-in-default-2
-returns-in-default-2 t c =
+pub returns-in_default-2 : goal.returns-in_default-2
+returns-in_default-2 t c =
     let a = c.args in
     let l = c.loop-turn in
     let i = c.in-Ok.item in
     let r = reading i.format i.begin i.length i.content.now i.next in
     let deep : a.depth ≡ suc (a.depth - 1) = omega arith in
-    let more : a.count - l.-turn ≡ suc (a.count - (l.-turn + 1)) = omega arith in
+    let more : a.count - l._turn ≡ suc (a.count - (l._turn + 1)) = omega arith in
     let inner = items_shown (a.depth - 1) a.frame.now i.length i.next in
-    let told = c.in-ok-next.ensures in
-    let f = list_shown a.depth (a.depth - 1) a.frame.now (a.count - l.-turn) (a.count - (l.-turn + 1)) l.place deep more r (sym c.in-Ok.ensures.item)
-    (ap is_list c.in-List.is) inner.text None refl (sym told.place ∙ c.in-default-2.is) in
-    let b = told.bytes ∙ (ap (λ x. x ++ inner.text) c.in-ok-push-open.ensures ∙ append_assoc (string_bytes l.text) (open_text i.length) inner.text) in
+    let told = c.in_ok-next.ensures in
+    let f = list_shown a.depth (a.depth - 1) a.frame.now (a.count - l._turn) (a.count - (l._turn + 1)) l.place deep more r (sym c.in-Ok.ensures.item)
+    (ap is_list c.in-List.is) inner.text None refl (sym told.place ∙ c.in_default-2.is) in
+    let b = told.bytes ∙ (ap (λ x. x ++ inner.text) c.in_ok-push_open.ensures ∙ append_assoc (string_bytes l.text) (open_text i.length) inner.text) in
     record {
       bytes = b ∙ (ap (λ (s : Shown). string_bytes l.text ++ s.text) (sym f) ∙ l.invariant.0);
       place = sym (ap (λ (s : Shown). s.next) f) ∙ l.invariant.1;
@@ -53,8 +53,8 @@ returns t c =
     let a = c.args in
     let l = c.loop-turn in
     let deep : a.depth ≡ suc (a.depth - 1) = omega arith in
-    let done : a.count - l.-turn ≡ 0 = omega arith in
-    let e = none_left a.depth (a.depth - 1) a.frame.now (a.count - l.-turn) l.place deep done in
+    let done : a.count - l._turn ≡ 0 = omega arith in
+    let e = none_left a.depth (a.depth - 1) a.frame.now (a.count - l._turn) l.place deep done in
     record {
       bytes = piece_none (string_bytes l.text) _ _ (ap (λ (s : Shown). s.text) e) l.invariant.0;
       place = sym (ap (λ (s : Shown). s.next) e) ∙ l.invariant.1;
@@ -68,31 +68,31 @@ loop-turn-preserved t c =
     let r = reading i.format i.begin i.length i.content.now i.next in
     let D = a.depth in
     let fr = a.frame.now in
-    let m = a.count - l.-turn in
-    let n = a.count - (l.-turn + 1) in
+    let m = a.count - l._turn in
+    let n = a.count - (l._turn + 1) in
     let old = string_bytes l.text in
     let deep : D ≡ suc (D - 1) = omega arith in
     let more : m ≡ suc n = omega arith in
     let read = sym c.in-Ok.ensures.item in
     elim c.match-item.branch [
-      | in-List+in-ok-push-open+in-ok-next+in-Some+in-ok-push-str-2 w ↦
+      | in-List+in_ok-push_open+in_ok-next+in-Some+in_ok-push_str-2 w ↦
           let inner = items_shown (D - 1) fr i.length i.next in
-          let told = w.in-ok-next.ensures in
+          let told = w.in_ok-next.ensures in
           let nx = w.in-Some.next in
           let v = open_text i.length ++ (inner.text ++ codes ">") in
           let f = list_shown D (D - 1) fr m n l.place deep more r read (ap is_list w.in-List.is) inner.text (Some nx) refl (sym told.place ∙ w.in-Some.is) in
           let u : string_bytes c.match-item.text ≡ old ++ v =
           ap string_bytes w.text-is
-          ∙ three_pieces old (string_bytes w.push-open.new.text) (string_bytes w.push-items.new.text) (string_bytes w.push-str-in-List.new.self) (open_text i.length) inner.text (codes ">")
-          w.in-ok-push-open.ensures told.bytes w.in-ok-push-str-2.ensures.bytes in (
+          ∙ three_pieces old (string_bytes w.push_open.new.text) (string_bytes w.push_items.new.text) (string_bytes w.push_str-in-List.new.self) (open_text i.length) inner.text (codes ">")
+          w.in_ok-push_open.ensures told.bytes w.in_ok-push_str-2.ensures.bytes in (
             piece_more old (string_bytes c.match-item.text) v (items_shown D fr m l.place).text (items_shown D fr n c.match-item.place).text _ u
                 (ap (λ (s : Shown). s.text) f ∙ ap (λ p. v ++ (items_shown D fr n p).text) (sym w.place-is)) l.invariant.0,
             ap (λ p. (items_shown D fr n p).next) w.place-is ∙ (sym (ap (λ (s : Shown). s.next) f) ∙ l.invariant.1),
           )
-      | in-default-format+in-ok-push-value w ↦
-          let f = first_value D (D - 1) fr m n l.place deep more r read (not_list i.format w.in-default-format.not-List) in
+      | in_default-format+in_ok-push_value w ↦
+          let f = first_value D (D - 1) fr m n l.place deep more r read (not_list i.format w.in_default-format.not-List) in
           let v = value_text i.format i.content.now in
-          let u : string_bytes c.match-item.text ≡ old ++ v = ap string_bytes w.text-is ∙ w.in-ok-push-value.ensures in (
+          let u : string_bytes c.match-item.text ≡ old ++ v = ap string_bytes w.text-is ∙ w.in_ok-push_value.ensures in (
             piece_more old (string_bytes c.match-item.text) v (items_shown D fr m l.place).text (items_shown D fr n c.match-item.place).text _ u
                 (ap (λ (s : Shown). s.text) f ∙ ap (λ p. v ++ (items_shown D fr n p).text) (sym w.place-is)) l.invariant.0,
             ap (λ p. (items_shown D fr n p).next) w.place-is ∙ (sym (ap (λ (s : Shown). s.next) f) ∙ l.invariant.1),

@@ -6,8 +6,8 @@ use Rattle.sml.proofs.pieces.push_value.Goals as goal
 pub returns : goal.returns
 unfolding value_text
 returns c =
-    let x = string_bytes c.push-str.new.self in
-    four_pieces (string_bytes c.args.text.now) x (string_bytes c.push-str-2.new.self) (string_bytes c.push-elements.new.text) (string_bytes c.push-str-3.new.self)
+    let x = string_bytes c.push_str.new.self in
+    four_pieces (string_bytes c.args.text.now) x (string_bytes c.push_str-2.new.self) (string_bytes c.push_elements.new.text) (string_bytes c.push_str-3.new.self)
     (codes " <") (name_text c.args.format) (elements_text c.args.format c.args.content.now) (codes ">")
-    c.in-ok-push-str.ensures.bytes (c.in-ok-push-str-2.ensures.bytes ∙ ap (λ n. x ++ n) c.name.ensures)
-    c.in-ok-push-elements.ensures c.in-ok-push-str-3.ensures.bytes
+    c.in_ok-push_str.ensures.bytes (c.in_ok-push_str-2.ensures.bytes ∙ ap (λ n. x ++ n) c.name.ensures)
+    c.in_ok-push_elements.ensures c.in_ok-push_str-3.ensures.bytes

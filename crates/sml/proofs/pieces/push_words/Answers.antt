@@ -20,5 +20,5 @@ loop-rest-preserved c =
     let t = string_bytes c.loop-rest.text in
     let word = word_text f (get_or xs 0 0 * 16777216 + get_or xs 1 0 * 65536 + get_or xs 2 0 * 256 + get_or xs 3 0) in
     let long : 4 ≤ length xs = omega (arith, ltb-false) in
-    piece_more t (string_bytes c.push-word.new.text) word (words_text f xs) (words_text f (take (length xs - 4) (drop 4 xs))) _
-    (c.in-ok-push-word.ensures ∙ ap (λ n. t ++ word_text f n) c.from-be-bytes.ensures) (step f xs long ∙ ap (λ r. word ++ words_text f r) (sym (take_rest xs 4))) c.loop-rest.invariant
+    piece_more t (string_bytes c.push_word.new.text) word (words_text f xs) (words_text f (take (length xs - 4) (drop 4 xs))) _
+    (c.in_ok-push_word.ensures ∙ ap (λ n. t ++ word_text f n) c.from_be_bytes.ensures) (step f xs long ∙ ap (λ r. word ++ words_text f r) (sym (take_rest xs 4))) c.loop-rest.invariant

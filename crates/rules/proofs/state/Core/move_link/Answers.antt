@@ -18,17 +18,17 @@ pub returns-in_default : goal.returns-in_default
 unfolding linked
 returns-in_default g c = search rules
 
-pub returns-in_default·2 : goal.returns-in_default·2
+pub returns-in_default-2 : goal.returns-in_default-2
 unfolding linked
-returns-in_default·2 g c = search rules
+returns-in_default-2 g c = search rules
 
-pub returns-in_default·3 : goal.returns-in_default·3
+pub returns-in_default-3 : goal.returns-in_default-3
 unfolding linked
-returns-in_default·3 g c = search rules
+returns-in_default-3 g c = search rules
 
-pub returns-in_default·4 : goal.returns-in_default·4
+pub returns-in_default-4 : goal.returns-in_default-4
 unfolding linked
-returns-in_default·4 g c = search rules
+returns-in_default-4 g c = search rules
 
 pub returns-in-WaitCra-Disabled : goal.returns-in-WaitCra-Disabled
 unfolding linked
