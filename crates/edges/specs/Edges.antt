@@ -1,12 +1,11 @@
 -- Pairs of cases at the edges: one on each side of a rule.
-use Rattle.std.specs.Prelude.{◌≡◌, ℕ, ◌≤◌, Bool, true, false, List, [], ◌∷◌, length, drop, None, Ok, Err}
+use Rattle.std.specs.Prelude.{◌≡◌, ℕ, ◌≤◌, Bool, true, false, [], ◌∷◌, length, drop, None, Ok, Err}
 use Rattle.blocks.specs.Layout.{block_of}
 use Rattle.bodies.specs.Bodies.{body_of}
 use Rattle.bodies.specs.declared.body.Body.TheVariants as body
 use Rattle.items.specs.Decode.{item_at, reading}
 use Rattle.lines.specs.declared.line.Letter.{Letter}
 use Rattle.lines.specs.declared.line.Letter.TheVariants.{Overwritten, TurnedAway}
-use Rattle.lines.specs.declared.line.Line.{Line}
 use Rattle.secs.specs.declared.format.Format.TheVariants.{Binary}
 use Rattle.secs.specs.declared.item.Fault.TheVariants.{PastEnd}
 use Rattle.spooling.specs.Entering.{directed}

@@ -1,7 +1,7 @@
 -- The bounds of every band stay in order.
 use Rattle.std.proofs.Common.{ℕ, ◌-◌, Bool, List, Some, None, Ok, Err, Option, Result}
 use lib.Signed.{le_z}
-use Rattle.std.specs.List.{AllByRecursion as All}
+use Rattle.std.specs.List.{AllByRecursion}
 use Rattle.std.proofs.ByRecursion.{All-set, All-map, All-weaker}
 use Rattle.std.proofs.lemmas.Bool.{cond_both}
 use Rattle.kinds.specs.declared.real.Real as real
@@ -23,20 +23,20 @@ module _ {K : Type 0} (at_most : K → K → Bool) where
   made_ordered : (lower upper : K) → Ordered at_most (band_made at_most lower upper)
   made_ordered lower upper = cond_both (at_most lower upper) _ _ (Ordered at_most) (λ e. e) (λ _. tt)
 
-  placed_ordered : (places : List (Option (Band K))) (number : ℕ) (made : Option (Band K)) → Ordered at_most made → All (Ordered at_most) places → All (Ordered at_most) (placed places number made)
+  placed_ordered : (places : List (Option (Band K))) (number : ℕ) (made : Option (Band K)) → Ordered at_most made → AllByRecursion (Ordered at_most) places → AllByRecursion (Ordered at_most) (placed places number made)
   placed_ordered places number None m h = h
   placed_ordered places number (Some band) m h = All-set (Ordered at_most) places (number - 1) (Some band) m h
 
-  add_ordered : (places : List (Option (Band K))) (number : ℕ) (made : Option (Band K)) → Ordered at_most made → All (Ordered at_most) places → All (Ordered at_most) (add_after places number made)
+  add_ordered : (places : List (Option (Band K))) (number : ℕ) (made : Option (Band K)) → Ordered at_most made → AllByRecursion (Ordered at_most) places → AllByRecursion (Ordered at_most) (add_after places number made)
   add_ordered places number made m h =
-      cond_both (is_free places number) _ _ (All (Ordered at_most)) (λ _. placed_ordered places number made m h) (λ _. h)
+      cond_both (is_free places number) _ _ (AllByRecursion (Ordered at_most)) (λ _. placed_ordered places number made m h) (λ _. h)
 
   -- a value leaves the bounds
   after_ordered : (value : K) (place : Option (Band K)) → Ordered at_most place → Ordered at_most (place_after at_most value place)
   after_ordered value None h = h
   after_ordered value (Some band) h = h
 
-  moved_ordered : (value : Result K SampleFault) (places : List (Option (Band K))) → All (Ordered at_most) places → All (Ordered at_most) (moved_by at_most value places)
+  moved_ordered : (value : Result K SampleFault) (places : List (Option (Band K))) → AllByRecursion (Ordered at_most) places → AllByRecursion (Ordered at_most) (moved_by at_most value places)
   moved_ordered (Err fault) places h = h
   moved_ordered (Ok value) places h =
       All-map (Ordered at_most) (place_after at_most value) places (All-weaker (Ordered at_most) _ (after_ordered value) places h)

@@ -1,7 +1,7 @@
 -- What a sample does to a band, in the words of the subject. `before` and `after` are the band before and after the value,
 -- `moved` is the answer.
 use Rattle.std.specs.Prelude.{◌≡◌, Bool, true, false, ◌⊎◌, List, Some, None, Option}
-use Rattle.std.specs.List.{AllByRecursion as All}
+use Rattle.std.specs.List.{AllByRecursion}
 use Rattle.zone.specs.declared.rule.Band.{Band}
 use Rattle.zone.specs.declared.rule.Zone.TheVariants.{NoZone, Above, Below}
 use Rattle.zone.specs.Zones.{band_moves, band_after, any_moves, bands_after}
@@ -56,4 +56,4 @@ Ordered at_most (Some band) = AtMost at_most band.lower band.upper
 -- where that holds of every band, the same value once more moves none
 abbrev pub AllSettle : {K : Type 0} → (K → K → Bool) → K → List (Option (Band K)) → Type 0
 AllSettle at_most value after =
-    All (Wide at_most) after → (any_moves at_most value after ≡ false) × (bands_after at_most value after ≡ after)
+    AllByRecursion (Wide at_most) after → (any_moves at_most value after ≡ false) × (bands_after at_most value after ≡ after)

@@ -1,6 +1,6 @@
 -- Runs of samples to one band.
 use Rattle.std.specs.Prelude.{◌≡◌, Bool, List, [], ◌∷◌, ◌++◌, ℤ, pos, int_le}
-use Rattle.std.specs.List.{AllByRecursion as All}
+use Rattle.std.specs.List.{AllByRecursion}
 use Rattle.zone.specs.declared.rule.Band.{Band}
 use Rattle.zone.specs.declared.rule.Zone.{Zone}
 use Rattle.zone.specs.declared.rule.Zone.TheVariants.{NoZone, Above, Below}
@@ -20,7 +20,7 @@ zones_along at_most (value ∷ values) band =
 
 -- every value is strictly between the bounds of a band
 abbrev pub AllBetween : {K : Type 0} → (K → K → Bool) → Band K → List K → Type 0
-AllBetween at_most band values = All (λ value. Under at_most band.lower value × Under at_most value band.upper) values
+AllBetween at_most band values = AllByRecursion (λ value. Under at_most band.lower value × Under at_most value band.upper) values
 
 -- A run that stays strictly between the bounds leaves the band as it was. Where the lower bound is strictly below the upper one,
 -- the last value that is not strictly between them decides: ABOVE if it is at or above the upper bound, BELOW if it is at or

@@ -1,6 +1,6 @@
 -- Variables, the samples and the bounds that they are given.
 use Rattle.std.specs.Prelude.{ℕ, Bool, List, replicate, ℤ, Some, None, Ok, Err, Option, Result, int_le}
-use Rattle.std.specs.List.{AllByRecursion as All}
+use Rattle.std.specs.List.{AllByRecursion}
 use Rattle.kinds.specs.declared.real.Real as real
 use Rattle.zone.specs.declared.rule.Band.{Band}
 use Rattle.zone.specs.declared.rule.Zone.{Zone}
@@ -103,5 +103,5 @@ zone_of (variable.Real bands) number = zone_at bands number
 
 -- every band of a variable has its lower bound at most at its upper one
 abbrev pub AllOrdered : Variable → Type 0
-AllOrdered (variable.Whole bands) = All (Ordered int_le) bands
-AllOrdered (variable.Real bands) = All (Ordered real_at_most) bands
+AllOrdered (variable.Whole bands) = AllByRecursion (Ordered int_le) bands
+AllOrdered (variable.Real bands) = AllByRecursion (Ordered real_at_most) bands
