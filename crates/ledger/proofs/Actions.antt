@@ -1,22 +1,20 @@
 -- Pump, samples and power keep the accounts.
-use Rattle.std.proofs.Common.{◌≡◌, ℕ, ◌+◌, ◌<◌, ◌≤◌, Bool, true, false, cond, not, ◌&&◌, List, [], ◌∷◌, ◌++◌, length, is_some, Some, None, Ok, Err, Option, Result, sym, refl, ap, ◌∙◌, subst, arith}
+use Rattle.std.proofs.Common.{◌≡◌, ℕ, ◌+◌, ◌≤◌, Bool, true, false, not, ◌&&◌, List, [], ◌∷◌, is_some, Some, None, Ok, Err, Option, Result, refl, arith}
 use Rattle.std.proofs.lemmas.Bool.{and_parts}
 use Rattle.actions.specs.Powers.{cut_off, halted, halted_at, powered}
-use Rattle.actions.specs.Pumps.{is_communicating, is_maximum, is_ready, opened, opened_from, purge_pumped, pumped, pumped_by, report_sent, report_sent_from, spool_ended, transmit_pumped}
+use Rattle.actions.specs.Pumps.{is_communicating, is_maximum, is_ready, purge_pumped, pumped, pumped_by, report_sent, spool_ended, transmit_pumped}
 use Rattle.actions.specs.Samples.{sample_taken, sampled, sampled_at, with_variable}
 use Rattle.lines.specs.declared.line.Line.{Line}
 use Rattle.moves.proofs.Entering.{either}
 use Rattle.moves.proofs.Leaving.{deactivated_kept, dropped_kept, halted_kept, opened_kept, purged_kept, turned_kept}
-use Rattle.moves.proofs.Sounds.{Kept, Sound, kept_none, kept_then, kept_wider}
-use Rattle.moves.specs.Books.{Book, OldestOpen, OpensFirst, OpensFrom}
-use Rattle.moves.specs.Numbers.{is_spool_end, numbers_of}
-use Rattle.rules.specs.Reporting.{evented}
-use Rattle.rules.specs.Views.{View, closed_all, with_control, with_held, with_link, with_sent}
+use Rattle.moves.proofs.Sounds.{Sound, kept_none, kept_then}
+use Rattle.moves.specs.Books.{OpensFirst, OpensFrom}
+use Rattle.rules.specs.Views.{View, closed_all, with_held}
 use Rattle.rules.specs.declared.event.Event.TheVariants.{SpoolDeactivated, ZoneMoved}
 use Rattle.rules.specs.declared.state.Next.{Next}
 use Rattle.setup.specs.Tables.{entry_at}
 use Rattle.spooling.specs.Holdings.{Holding}
-use Rattle.spooling.specs.Leaving.{deactivated, dropped, unloading}
+use Rattle.spooling.specs.Leaving.{deactivated}
 use Rattle.spooling.specs.declared.state.OpenReport.{OpenReport}
 use Rattle.spooling.specs.declared.state.Source.{Source}
 use Rattle.spooling.specs.declared.state.Source.TheVariants.{Queue, Spool}
@@ -30,7 +28,7 @@ use Rattle.zone.specs.declared.variable.Sample.{Sample}
 use Rattle.zone.specs.declared.variable.SampleFault.{SampleFault}
 use Rattle.zone.specs.declared.variable.Variable.{Variable}
 use Rattle.ledger.specs.Laws.{book_of}
-use Rattle.ledger.proofs.Rules.{F, Final, K, closed_all_lem, evented_kept, final_off, final_same, quiet}
+use Rattle.ledger.proofs.Rules.{F, K, closed_all_lem, evented_kept, final_off, final_same, quiet}
 
 none_is : (p : Option OpenReport) → not (is_some p) ≡ true → p ≡ None
 none_is None e = refl

@@ -1,10 +1,10 @@
 -- Each call keeps the accounts.
-use Rattle.std.proofs.Common.{◌≡◌, ℕ, ◌+◌, ◌<◌, ◌≤◌, Bool, true, false, cond, not, ◌&&◌, eqb, leb, List, [], ◌∷◌, ◌++◌, length, Some, None, Option, sym, refl, ap, ◌∙◌, subst, arith}
+use Rattle.std.proofs.Common.{◌≡◌, ℕ, ◌≤◌, Bool, true, false, cond, not, eqb, leb, List, [], length, Some, None, Option, sym, refl, ap, subst, arith}
 use Rattle.frames.specs.Frames.{Parted, frame_at}
-use Rattle.gem.proofs.Calling.{Admitted, admitted}
+use Rattle.gem.proofs.Calling.{admitted}
 use Rattle.gem.specs.Alarms.{alarm_changed, alarm_event, alarm_evented, alarm_told, alarmed, alarmed_at, alcd_of, is_same}
 use Rattle.gem.specs.Calls.{call_turn, unless}
-use Rattle.gem.specs.Turns.{expiry_turn, failed, frame_turn, host_turn, refusal_of, switch_turn, turn_of}
+use Rattle.gem.specs.Turns.{expiry_turn, frame_turn, refusal_of, switch_turn, turn_of}
 use Rattle.gem.specs.declared.equipment.Call.{Call}
 use Rattle.gem.specs.declared.equipment.Call.TheVariants as call
 use Rattle.host.specs.Grants.{with_alarm}
@@ -15,7 +15,7 @@ use Rattle.moves.proofs.Sounds.{Kept, Sound, kept_none, kept_then, kept_wider, w
 use Rattle.moves.specs.Books.{Book}
 use Rattle.moves.specs.Numbers.{is_spool_end, numbers_of}
 use Rattle.rules.specs.ControlRules.{expiry_of, switch_of}
-use Rattle.rules.specs.Reporting.{alarm_reported, evented}
+use Rattle.rules.specs.Reporting.{alarm_reported}
 use Rattle.rules.specs.Views.{View, next_of}
 use Rattle.rules.specs.declared.control.Expiry.{Expiry}
 use Rattle.rules.specs.declared.control.Switch.{Switch}
@@ -27,7 +27,7 @@ use Rattle.states.specs.declared.link.LinkEvent.TheVariants.{Failure}
 use Rattle.ledger.specs.Laws.{book_of}
 use Rattle.ledger.proofs.Actions.{powered_final, pumped_final, sampled_final}
 use Rattle.ledger.proofs.Hosts.{frame_final}
-use Rattle.ledger.proofs.Rules.{F, Final, K, alarmed_kept, evented_kept, expired_final, fell_linked, final_same, quiet, switched_final, turns_on}
+use Rattle.ledger.proofs.Rules.{F, Final, K, alarmed_kept, evented_kept, expired_final, fell_linked, final_same, quiet, switched_final}
 
 final_wider : {o : Bool} {past base : List Line} {k : ℕ} {b c : Book} (n : ℕ) → k ≤ n → Final o past base k b c → Final o past base n b c
 final_wider n l f = record { moves = f.moves; active = f.active; sound = wider n l f.sound }

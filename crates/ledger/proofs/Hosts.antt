@@ -1,5 +1,5 @@
 -- A frame of the host keeps the accounts.
-use Rattle.std.proofs.Common.{◌≡◌, ℕ, ◌+◌, ◌%◌, ◌<◌, ◌≤◌, Bool, true, false, cond, not, ◌&&◌, ◌||◌, eqb, List, [], ◌∷◌, ◌++◌, length, Some, None, Ok, Err, Option, Result, sym, refl, ap, ◌∙◌, subst, arith}
+use Rattle.std.proofs.Common.{◌≡◌, ℕ, ◌+◌, ◌%◌, ◌≤◌, Bool, true, false, cond, ◌||◌, eqb, List, length, Some, None, Ok, Err, Option, Result, sym, refl, ◌∙◌, subst, arith}
 use Rattle.bodies.specs.Bodies.{commack_accepted}
 use Rattle.bodies.specs.declared.body.Body.{Body}
 use Rattle.bodies.specs.declared.body.Body.TheVariants as body
@@ -7,13 +7,12 @@ use Rattle.frames.specs.declared.header.Header.{Header}
 use Rattle.host.specs.Acknowledges.{acknowledge_byte, acknowledging}
 use Rattle.host.specs.Grants.{alarm_granted, granted, online_granted, unload_answer, unload_granted, unloading_answer}
 use Rattle.host.specs.Replies.{answers_report, answers_session, attempt_answered, commack_taken, is_awaited_commack, is_establish, reply_taken, report_answered, request_answered, session_answered, wait_taken}
-use Rattle.host.specs.Takes.{Turn, done, frame_taken, link_taken, primary_taken, request_taken, session_taken, taken_offline, told}
-use Rattle.host.specs.declared.acknowledge.Acknowledge.{Acknowledge}
+use Rattle.host.specs.Takes.{Turn, frame_taken, link_taken, primary_taken, request_taken, session_taken, taken_offline, told}
 use Rattle.host.specs.declared.acknowledge.Acknowledge.TheVariants.{NothingSpooled, OfflineAccepted}
 use Rattle.lines.specs.declared.line.Line.{Line}
 use Rattle.moves.proofs.Entering.{either}
 use Rattle.moves.proofs.Leaving.{acknowledged_kept, closed_kept, unloads_kept}
-use Rattle.moves.proofs.Sounds.{Kept, Sound, kept_none, kept_then, kept_wider}
+use Rattle.moves.proofs.Sounds.{Sound, kept_none}
 use Rattle.moves.specs.Books.{Book, OldestOpen, OpensFirst, OpensFrom, unloads}
 use Rattle.moves.specs.Moves.{Move, starts_purge, transmits}
 use Rattle.moves.specs.Numbers.{is_spool_end, numbers_of}
@@ -23,7 +22,7 @@ use Rattle.requests.specs.declared.request.FrameFault.{FrameFault}
 use Rattle.requests.specs.declared.request.FrameFault.TheVariants.{Session}
 use Rattle.requests.specs.declared.request.Request.{Request}
 use Rattle.requests.specs.declared.request.Request.TheVariants as request
-use Rattle.rules.specs.ControlRules.{fell_back, went_offline, went_online}
+use Rattle.rules.specs.ControlRules.{went_offline, went_online}
 use Rattle.rules.specs.LinkRules.{linked}
 use Rattle.rules.specs.Sends.{replied}
 use Rattle.rules.specs.Views.{View, with_held, with_session}
@@ -33,12 +32,10 @@ use Rattle.rules.specs.declared.state.SessionRequest.{SessionRequest}
 use Rattle.rules.specs.declared.state.SessionRequest.TheVariants.{AreYouThere, Establish}
 use Rattle.setup.specs.Tables.{entry_at}
 use Rattle.setup.specs.declared.plan.Alarm.{Alarm}
-use Rattle.spooling.specs.Holdings.{Holding, with_pending}
-use Rattle.spooling.specs.Leaving.{acknowledged, transmitting, unloading}
+use Rattle.spooling.specs.Holdings.{Holding}
 use Rattle.spooling.specs.declared.state.OpenReport.{OpenReport}
 use Rattle.spooling.specs.declared.state.Source.{Source}
 use Rattle.spooling.specs.declared.state.Source.TheVariants.{Queue, Spool}
-use Rattle.spooling.specs.declared.state.Spooling.{Spooling}
 use Rattle.spooling.specs.declared.state.Unload.{Unload}
 use Rattle.spooling.specs.declared.state.Unload.TheVariants as unload
 use Rattle.states.specs.Controls.{is_online}
@@ -48,7 +45,7 @@ use Rattle.states.specs.declared.link.Link.{Link}
 use Rattle.states.specs.declared.link.Link.TheVariants.{Disabled, WaitCra, WaitDelay, Communicating}
 use Rattle.states.specs.declared.link.LinkEvent.TheVariants.{Accepted, Denied, HostEstablishes, OtherFrame}
 use Rattle.ledger.specs.Laws.{book_of}
-use Rattle.ledger.proofs.Rules.{F, Final, K, control_kept, faulted_kept, fell_kept, final_same, linked_final, offline_kept, online_kept, quiet, replied_kept}
+use Rattle.ledger.proofs.Rules.{F, Final, faulted_kept, fell_kept, final_same, linked_final, offline_kept, online_kept, quiet}
 
 -- a reply moves no report
 pub replied_book : (h : Header) (function : ℕ) (x : Body) (v : View) → book_of (replied h function x v) ≡ book_of v

@@ -1,9 +1,8 @@
 -- A call with buffers of the sizes that are lent to it: of an output buffer 512 bytes, of a ledger 32 lines are as good as more.
-use Rattle.std.proofs.Common.{◌≡◌, ℕ, ◌+◌, ◌-◌, ◌<◌, ◌≤◌, min, Bool, true, false, cond, ◌||◌, ltb, ◌⊎◌, List, [], ◌∷◌, ◌++◌, length, take, drop, Some, None, Option, sym, refl, ap, ◌∙◌, subst, ap₂, inl, inr, arith}
+use Rattle.std.proofs.Common.{◌≡◌, ℕ, ◌<◌, ◌≤◌, min, Bool, cond, ◌||◌, ltb, ◌⊎◌, List, ◌++◌, length, take, drop, Some, None, Option, sym, ap, ◌∙◌, subst, ap₂, inl, inr, arith}
 use Rattle.std.proofs.lemmas.List.{append_assoc, drop-append-le, length-take-le, take-append-drop}
 use Rattle.std.proofs.lemmas.Bool.{cases_lt, cond-false, le-ltb}
 use Rattle.gem.specs.Calls.{Answered, call_turn, found, unless}
-use Rattle.gem.specs.Runs.{cleared}
 use Rattle.gem.specs.Turns.{refusal_of}
 use Rattle.gem.specs.declared.equipment.Call.{Call}
 use Rattle.gem.specs.declared.equipment.LentCall.{LentCall}

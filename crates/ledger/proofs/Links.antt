@@ -1,31 +1,30 @@
 -- How COMMUNICATING is entered.
-use Rattle.std.proofs.Common.{◌≡◌, ℕ, ◌+◌, ◌%◌, Bool, true, false, cond, not, ◌&&◌, ◌||◌, eqb, leb, ◌⊎◌, List, [], ◌∷◌, length, Some, None, Ok, Err, Option, Result, sym, refl, ap, ◌∙◌, subst, inl, inr, arith, Bor}
+use Rattle.std.proofs.Common.{◌≡◌, ℕ, Bool, true, false, cond, not, ◌&&◌, eqb, leb, List, [], ◌∷◌, length, Some, None, Ok, Err, Option, Result, sym, refl, ap, ◌∙◌, inl, inr, arith, Bor}
 use Rattle.std.proofs.lemmas.Bool.{and_parts, eqb-true}
 use Rattle.actions.specs.Powers.{powered}
-use Rattle.actions.specs.Pumps.{is_maximum, is_ready, opened, opened_from, purge_pumped, pumped, pumped_by, report_sent, spool_ended, transmit_pumped}
+use Rattle.actions.specs.Pumps.{is_maximum, is_ready, purge_pumped, pumped, pumped_by, report_sent, spool_ended, transmit_pumped}
 use Rattle.actions.specs.Samples.{sample_taken, sampled, sampled_at}
 use Rattle.bodies.specs.Bodies.{commack_accepted}
 use Rattle.bodies.specs.declared.body.Body.{Body}
-use Rattle.bodies.specs.declared.body.Body.TheVariants as body
 use Rattle.frames.specs.Frames.{Parted, frame_at}
 use Rattle.frames.specs.declared.header.Header.{Header}
-use Rattle.gem.specs.Alarms.{alarm_changed, alarm_event, alarm_told, alarmed, alarmed_at, alcd_of, is_same}
+use Rattle.gem.specs.Alarms.{alarm_event, alarm_told, alarmed, alarmed_at, alcd_of, is_same}
 use Rattle.gem.specs.Calls.{call_turn, unless}
 use Rattle.gem.specs.Turns.{expiry_turn, frame_turn, host_turn, refusal_of, switch_turn, turn_of}
 use Rattle.gem.specs.declared.equipment.Call.{Call}
 use Rattle.gem.specs.declared.equipment.Call.TheVariants as call
 use Rattle.host.specs.Grants.{with_alarm}
-use Rattle.host.specs.Replies.{answers_session, commack_taken, is_awaited_commack, is_establish, is_wait_cra, wait_taken}
-use Rattle.host.specs.Takes.{Turn, frame_taken, link_taken, session_taken, told}
+use Rattle.host.specs.Replies.{commack_taken, is_awaited_commack, is_establish, is_wait_cra, wait_taken}
+use Rattle.host.specs.Takes.{Turn, frame_taken, link_taken, told}
 use Rattle.moves.proofs.Entering.{either}
 use Rattle.requests.specs.Requests.{commack_of}
 use Rattle.requests.specs.declared.request.FrameFault.{FrameFault}
 use Rattle.requests.specs.declared.request.FrameFault.TheVariants.{Session}
 use Rattle.rules.specs.ControlRules.{attempted_at, expired, expiry_of, fell_back, local_switched, mode_event, offline_switched, online_switched, overdue_at, remote_switched, switch_of, switched, went_offline, went_online}
-use Rattle.rules.specs.LinkRules.{followed, into_disabled, into_wait_cra, into_wait_delay, linked, lost, spool_started, stopped_at}
+use Rattle.rules.specs.LinkRules.{followed, linked, lost, stopped_at}
 use Rattle.rules.specs.Reporting.{alarm_reported, evented}
 use Rattle.rules.specs.Sends.{asked, faulted, replied}
-use Rattle.rules.specs.Views.{View, closed_all, next_of, with_control, with_held, with_link, with_mode, with_session}
+use Rattle.rules.specs.Views.{View, closed_all, next_of, with_control, with_held, with_link, with_mode}
 use Rattle.rules.specs.declared.control.Expiry.{Expiry}
 use Rattle.rules.specs.declared.control.Expiry.TheVariants as expiry
 use Rattle.rules.specs.declared.control.Switch.{Switch}
@@ -41,7 +40,7 @@ use Rattle.spooling.specs.declared.state.Source.{Source}
 use Rattle.spooling.specs.declared.state.Source.TheVariants.{Queue, Spool}
 use Rattle.spooling.specs.declared.state.Unload.{Unload}
 use Rattle.spooling.specs.declared.state.Unload.TheVariants.{NoOutput, Transmit, Purge}
-use Rattle.states.specs.Controls.{fallback_state, is_online, online_at}
+use Rattle.states.specs.Controls.{is_online, online_at}
 use Rattle.states.specs.Links.{link_after}
 use Rattle.states.specs.declared.control.Control.{Control}
 use Rattle.states.specs.declared.control.Control.TheVariants.{EquipmentOffline, Attempt, HostOffline, Local, Remote}
@@ -55,7 +54,7 @@ use Rattle.zone.specs.Variables.{sample_after, sample_answer}
 use Rattle.zone.specs.declared.variable.Sample.{Sample}
 use Rattle.zone.specs.declared.variable.SampleFault.{SampleFault}
 use Rattle.zone.specs.declared.variable.Variable.{Variable}
-use Rattle.ledger.specs.Laws.{Established, EstablishedBy}
+use Rattle.ledger.specs.Laws.{EstablishedBy}
 use Rattle.ledger.proofs.Rules.{fell}
 
 -- communications stay as they are

@@ -1,10 +1,10 @@
 -- A run, call by call.
-use Rattle.std.proofs.Common.{◌≡◌, ℕ, ◌+◌, ◌-◌, ◌<◌, ◌≤◌, Bool, true, false, cond, leb, List, [], ◌∷◌, ◌++◌, length, get_or, take, drop, sym, refl, ap, ◌∙◌, subst, ap₂, arith}
+use Rattle.std.proofs.Common.{◌≡◌, ℕ, ◌+◌, ◌-◌, ◌<◌, ◌≤◌, Bool, true, leb, List, [], ◌++◌, length, get_or, take, drop, sym, refl, ap, ◌∙◌, subst, ap₂, arith}
 use borrow.Rule.Slice.PartMut.{post_of, put_mid}
 use Rattle.std.proofs.lemmas.List.{append_assoc, append-nil, drop_all, drop_at, drop-drop, drop_more, length-append, length-drop, length-take-le, take_at, take_more, take_rest}
 use Rattle.std.proofs.lemmas.Bool.{cond-false, cond-true, le-leb, lt-leb}
 use Rattle.gem.specs.Calls.{call_turn, found}
-use Rattle.gem.specs.Runs.{Beginning, Outcome, Run, begins_fit, begun, carried, cleared, continued, left_by, run_of}
+use Rattle.gem.specs.Runs.{Beginning, Run, begins_fit, begun, carried, cleared, continued, left_by, run_of}
 use Rattle.gem.specs.declared.equipment.LentCall.{LentCall}
 use Rattle.lines.specs.Journals.{on_ledger}
 use Rattle.lines.specs.declared.line.Line.{Line}
@@ -13,7 +13,7 @@ use Rattle.rules.specs.declared.state.Core.{Core}
 use Rattle.spooling.specs.Holdings.{shelf}
 use Rattle.store.specs.declared.Store.{Ghosts}
 use Rattle.ledger.specs.Laws.{LedgerLaw}
-use Rattle.ledger.specs.Sittings.{Empty, Left, Ran, calls_made, calls_within}
+use Rattle.ledger.specs.Sittings.{Left, Ran, calls_made, calls_within}
 use Rattle.ledger.proofs.Runs.{run_law, run_push}
 
 -- what an equipment began with, while no call was made

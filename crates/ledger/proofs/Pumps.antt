@@ -1,20 +1,20 @@
 -- Pump removes nothing, but in PURGE.
-use Rattle.std.proofs.Common.{◌≡◌, ℕ, ◌+◌, Bool, true, false, cond, not, ◌&&◌, eqb, List, [], ◌∷◌, ◌++◌, Some, None, Option, sym, refl, ap, ◌∙◌, subst}
+use Rattle.std.proofs.Common.{◌≡◌, ℕ, Bool, false, not, ◌&&◌, eqb, List, [], ◌∷◌, Some, None, Option, sym, refl, ◌∙◌}
 use Rattle.std.proofs.lemmas.List.{append-nil}
 use Rattle.std.proofs.lemmas.Bool.{false≢true}
-use Rattle.actions.specs.Pumps.{is_maximum, is_ready, pumped, pumped_by, report_sent, spool_ended, transmit_pumped}
+use Rattle.actions.specs.Pumps.{is_maximum, is_ready, pumped, pumped_by, report_sent, transmit_pumped}
 use Rattle.gem.specs.Calls.{call_turn, unless}
 use Rattle.gem.specs.Turns.{refusal_of}
 use Rattle.gem.specs.declared.equipment.Call.TheVariants as call
-use Rattle.lines.specs.declared.line.Letter.TheVariants.{Dropped, Made}
+use Rattle.lines.specs.declared.line.Letter.TheVariants.{Made}
 use Rattle.moves.proofs.Entering.{either}
 use Rattle.rules.specs.Reporting.{evented}
 use Rattle.rules.specs.Views.{View, next_of, with_held}
 use Rattle.rules.specs.declared.event.Event.{Event}
 use Rattle.rules.specs.declared.event.Event.TheVariants.{SpoolDeactivated}
 use Rattle.rules.specs.declared.state.Next.{Next}
-use Rattle.spooling.specs.Entering.{directed, enqueued, made, routed}
-use Rattle.spooling.specs.Holdings.{Holding, add_line, with_queue}
+use Rattle.spooling.specs.Entering.{enqueued, made, routed}
+use Rattle.spooling.specs.Holdings.{Holding, add_line}
 use Rattle.spooling.specs.Leaving.{deactivated}
 use Rattle.spooling.specs.declared.state.Source.{Source}
 use Rattle.spooling.specs.declared.state.Source.TheVariants.{Queue, Spool}

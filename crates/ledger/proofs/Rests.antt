@@ -1,26 +1,22 @@
 -- Between two calls of a run.
-use Rattle.std.proofs.Common.{◌≡◌, ℕ, ◌+◌, ◌<◌, ◌≤◌, Bool, true, false, cond, not, ◌&&◌, eqb, leb, ◌⊎◌, List, [], ◌∷◌, ◌++◌, length, Some, None, Option, sym, refl, ap, ◌∙◌, subst, ap₂, subst₂, inl, inr, arith}
+use Rattle.std.proofs.Common.{◌≡◌, ℕ, ◌+◌, ◌<◌, ◌≤◌, Bool, true, false, cond, eqb, leb, ◌⊎◌, List, [], ◌∷◌, ◌++◌, length, sym, refl, ap, ◌∙◌, subst, subst₂, inl, inr, arith}
 use Rattle.std.proofs.lemmas.List.{append-nil}
 use Rattle.std.proofs.lemmas.Bool.{and_parts, cases_lt, false≢true, leb-true}
 use Rattle.gem.specs.Calls.{call_turn}
 use Rattle.gem.specs.Endings.{OneOf, first, second, third}
-use Rattle.gem.specs.Runs.{Beginning, Run, activates, begins_fit, begun, carried, cleared, followed, left_by}
+use Rattle.gem.specs.Runs.{Beginning, Run, activates, begins_fit, begun, carried, left_by}
 use Rattle.gem.specs.declared.equipment.Call.{Call}
-use Rattle.gem.specs.declared.equipment.Call.TheVariants as call
 use Rattle.gem.specs.declared.equipment.LentCall.{LentCall}
 use Rattle.lines.specs.Letters.{is_end}
 use Rattle.lines.specs.declared.line.Line.{Line}
 use Rattle.moves.proofs.Accounts.{Accounts}
 use Rattle.moves.proofs.Ascents.{asc_front, in_times, times_in, times_up_to, times_within}
 use Rattle.moves.proofs.Sounds.{Sound}
-use Rattle.moves.specs.Books.{AllWhole, Book}
-use Rattle.moves.specs.Moves.{stays}
-use Rattle.moves.specs.Numbers.{In, is_acknowledged, is_made, is_spool_end, named, numbers, numbers_of, times, up_to}
+use Rattle.moves.specs.Books.{AllWhole}
+use Rattle.moves.specs.Numbers.{In, is_acknowledged, is_made, numbers, numbers_of, times}
 use Rattle.rules.specs.Views.{View}
-use Rattle.spooling.specs.declared.state.Unload.TheVariants.{Purge}
-use Rattle.states.specs.declared.link.Link.TheVariants.{Communicating}
 use Rattle.store.specs.Reports.{Report}
-use Rattle.ledger.specs.Laws.{CallLaw, Grown, LawOf, LedgerLaw, book_of}
+use Rattle.ledger.specs.Laws.{CallLaw, Grown, LawOf, book_of}
 use Rattle.ledger.specs.Sittings.{Empty}
 use Rattle.ledger.proofs.Calls.{call_final}
 use Rattle.ledger.proofs.Links.{call_by}

@@ -1,14 +1,14 @@
 -- The rules on communications, control and reports keep the accounts.
-use Rattle.std.proofs.Common.{◌≡◌, ℕ, ◌+◌, ◌<◌, ◌≤◌, Bool, true, false, cond, not, ◌&&◌, ◌⊎◌, List, [], ◌∷◌, ◌++◌, length, Some, None, Option, sym, refl, ap, ◌∙◌, subst, inl, inr, arith}
+use Rattle.std.proofs.Common.{◌≡◌, ℕ, ◌+◌, ◌≤◌, Bool, true, false, cond, not, ◌&&◌, List, [], length, Some, None, Option, sym, refl, ap, ◌∙◌, subst, inl, inr, arith}
 use Rattle.bodies.specs.Bodies.{body_of}
 use Rattle.bodies.specs.declared.body.Body.{Body}
 use Rattle.bodies.specs.declared.body.Body.TheVariants as body
 use Rattle.frames.specs.declared.header.Header.{Header}
 use Rattle.lines.specs.declared.line.Line.{Line}
-use Rattle.moves.proofs.Entering.{either, entered, made_kept}
+use Rattle.moves.proofs.Entering.{either, made_kept}
 use Rattle.moves.proofs.Leaving.{activated_kept, closed_kept, dropped_kept, halted_kept, turned_kept}
 use Rattle.moves.proofs.Sounds.{Kept, Sound, joined, kept_none, kept_then, kept_wider}
-use Rattle.moves.specs.Books.{Book, Whole, with_held}
+use Rattle.moves.specs.Books.{Book, Whole}
 use Rattle.moves.specs.Moves.{Moves}
 use Rattle.moves.specs.Numbers.{is_spool_end, numbers_of}
 use Rattle.rules.specs.ControlRules.{attempted_at, expired, fell_back, fell_back_at, local_switched, mode_event, offline_switched, online_switched, overdue_at, remote_switched, switched, went_offline, went_online}
@@ -40,7 +40,6 @@ use Rattle.states.specs.declared.link.Link.{Link}
 use Rattle.states.specs.declared.link.Link.TheVariants.{Disabled, WaitCra, WaitDelay, Communicating}
 use Rattle.states.specs.declared.link.LinkEvent.{LinkEvent}
 use Rattle.states.specs.declared.link.LinkEvent.TheVariants.{Enable, Disable, DelayOver, NoReply}
-use Rattle.store.specs.Reports.{Report}
 use Rattle.ledger.specs.Laws.{book_of}
 
 -- whether an INACTIVE spool became ACTIVE from one book to another

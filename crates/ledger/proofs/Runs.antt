@@ -1,27 +1,20 @@
 -- The law of all runs.
-use Rattle.std.proofs.Common.{◌≡◌, ℕ, ◌+◌, ◌-◌, ◌<◌, ◌≤◌, Bool, true, false, cond, List, [], ◌∷◌, ◌++◌, length, drop, Some, None, Option, sym, refl, ap, ◌∙◌, subst, ap₂, subst₂, arith}
+use Rattle.std.proofs.Common.{◌≡◌, ℕ, ◌≤◌, Bool, true, false, List, [], ◌∷◌, ◌++◌, length, drop, None, sym, refl, ap, ◌∙◌, subst, ap₂, subst₂, arith}
 use Rattle.std.proofs.lemmas.List.{append-nil, length-append, length-drop}
 use Rattle.std.proofs.lemmas.Bool.{false≢true}
 use Rattle.gem.specs.Calls.{Answered, call_turn, found}
 use Rattle.gem.specs.Runs.{Beginning, Outcome, Run, begins_fit, begun, carried, cleared, continued, run_of}
 use Rattle.gem.specs.declared.equipment.Call.{Call}
-use Rattle.gem.specs.declared.equipment.Call.TheVariants as call
 use Rattle.gem.specs.declared.equipment.LentCall.{LentCall}
-use Rattle.host.specs.Takes.{Turn}
-use Rattle.lines.specs.Journals.{on_ledger}
 use Rattle.lines.specs.declared.line.Line.{Line}
 use Rattle.moves.specs.Books.{AllWhole}
 use Rattle.moves.specs.Moves.{stays}
 use Rattle.rules.specs.Views.{View}
 use Rattle.rules.specs.declared.state.Core.{Core}
-use Rattle.sending.specs.Sending.{frame_bytes, on_buffer}
-use Rattle.spooling.specs.Holdings.{Shelf}
-use Rattle.spooling.specs.declared.state.OpenReport.{OpenReport}
-use Rattle.spooling.specs.declared.state.Spooling.{Spooling}
-use Rattle.store.specs.Reports.{Report}
+use Rattle.sending.specs.Sending.{frame_bytes}
 use Rattle.store.specs.declared.Store.{Ghosts}
 use Rattle.ledger.specs.Laws.{CallLaw, LawOf, LedgerLaw}
-use Rattle.ledger.specs.Sittings.{Carried, Empty, TrueOf}
+use Rattle.ledger.specs.Sittings.{Carried, Empty}
 use Rattle.ledger.proofs.Rests.{Rest, rest_begun, rest_call, rest_law, rest_more}
 
 -- the empty run

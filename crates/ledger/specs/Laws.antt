@@ -1,5 +1,5 @@
 -- What is true of the ledger after every run.
-use Rattle.std.specs.Prelude.{◌≡◌, ℕ, ◌+◌, ◌≤◌, Bool, true, false, ◌⊎◌, List, [], ◌∷◌, ◌++◌, length, Some, None, Option, ◌≢◌}
+use Rattle.std.specs.Prelude.{◌≡◌, ℕ, ◌+◌, ◌≤◌, true, false, ◌⊎◌, List, [], ◌++◌, length, Some, ◌≢◌}
 use Rattle.bodies.specs.Bodies.{commack_accepted}
 use Rattle.frames.specs.Frames.{Parted, frame_at}
 use Rattle.gem.specs.Endings.{OneOf, frame_in}

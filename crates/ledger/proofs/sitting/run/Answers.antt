@@ -34,7 +34,7 @@ pub loop-lent-preserved : goal.loop-lent-preserved
 loop-lent-preserved g c =
     let x = c.args in
     let l = c.loop-lent in
-    let m = c.make-call-used in
+    let m = c.make_call-used in
     making_more g.Q.Store g.S.Store (beginning_of g.Q.Store g.S.Store c.start-equipment.result.core) x.calls.now l.lent-index x.ledger.now l.made l.used l.equipment.fit l.equipment.core l.ledger l.invariant
     (record { call = Host (record { ref_ptr = (0, 0); now = [] }); out = 0; ledger = 0 }) m.result m.new.equipment.fit m.new.equipment.core m.new.page c.loop-lent-test.true c.if-ledger-used-lt32.false m.ensures.left m.auto.page
 
