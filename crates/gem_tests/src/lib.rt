@@ -8,7 +8,7 @@ mod control;
 #[cfg(test)]
 mod driver;
 #[cfg(test)]
-mod frames;
+mod host_frames;
 #[cfg(test)]
 mod link;
 #[cfg(test)]
