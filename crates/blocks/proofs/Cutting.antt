@@ -1,9 +1,22 @@
 -- Bytes cut into blocks.
-use Rattle.std.proofs.Common.{◌≡◌, ℕ, zero, suc, ◌+◌, ◌-◌, ◌*◌, ◌<◌, ◌≤◌, List, [], ◌∷◌, ◌++◌, length, get_or, take, drop, set, sym, refl, ap, ◌∙◌, arith}
-use Rattle.std.specs.List.{between}
+use Rattle.std.proofs.Common.{◌≡◌, ℕ, zero, suc, ◌+◌, ◌*◌, ◌<◌, ◌≤◌, List, [], ◌∷◌, ◌++◌, length, get_or, take, drop, set, sym, refl, ap, ◌∙◌, arith}
 use Rattle.std.proofs.lemmas.List.{length-take, length-drop, take_at, drop_at, drop-drop, drop-take, take-take, take-append-le, drop-append-le}
+use Rattle.std.specs.Simd.{first_chunks}
 use Rattle.octets.specs.Places.{placed}
 use Rattle.blocks.specs.Blocks.{blocks_of}
+
+-- the chunks of a slice are its blocks
+pub chunks_are : (n : ℕ) (xs : List ℕ) → first_chunks 512 n xs ≡ blocks_of n xs
+unfolding blocks_of
+chunks_are zero xs = refl
+chunks_are (suc n) xs = ap (λ bs. take 512 xs ∷ bs) (chunks_are n (drop 512 xs))
+
+-- the first of the blocks
+pub take_blocks : (k n : ℕ) (xs : List ℕ) → k ≤ n → take k (blocks_of n xs) ≡ blocks_of k xs
+unfolding blocks_of
+take_blocks zero n xs h = refl
+take_blocks (suc k) zero xs h = absurd (omega arith)
+take_blocks (suc k) (suc n) xs h = ap (λ bs. take 512 xs ∷ bs) (take_blocks k n (drop 512 xs) (omega arith))
 
 pub length_blocks : (n : ℕ) (xs : List ℕ) → length (blocks_of n xs) ≡ n
 unfolding blocks_of
@@ -18,11 +31,6 @@ block_at (suc n) zero xs h = refl
 block_at (suc n) (suc i) xs h =
     let e : 512 + i * 512 ≡ suc i * 512 = omega arith in
     block_at n i (drop 512 xs) (omega arith) ∙ ap (take 512) (drop-drop (i * 512) 512 xs ∙ ap (λ m. drop m xs) e)
-
-pub block_part : (n i : ℕ) (xs : List ℕ) → i < n → get_or (blocks_of n xs) i [] ≡ between (i * 512) (i * 512 + 512) xs
-block_part n i xs h =
-    let e : 512 ≡ i * 512 + 512 - i * 512 = omega arith in
-    block_at n i xs h ∙ ap (λ m. take m (drop (i * 512) xs)) e
 
 -- a write past the first block
 later_take : (xs bs : List ℕ) (j : ℕ) → 512 + j ≤ length xs → take 512 (placed xs (512 + j) bs) ≡ take 512 xs

@@ -1,12 +1,12 @@
 -- The reports of intact blocks: their numbers, one more, one less.
 use Rattle.std.proofs.Common.{◌≡◌, ℕ, zero, suc, ◌<◌, ◌≤◌, max, true, false, not, ◌||◌, eqb, ltb, ◌⊎◌, List, [], ◌∷◌, ◌++◌, length, get_or, set, sym, refl, ap, ◌∙◌, subst, inl, inr, arith}
-use Rattle.std.proofs.lemmas.Bool.{cond-true, cond-false, and_from, and_parts, or_cases, or_parts, or_from, or_left, or_right, both_ways, cases_Bool, cases_eq, cases_lt, eq-eqb, ne_eqb, eqb-true, eqb-false, lt-ltb, not-true, not_from_false}
+use Rattle.std.proofs.lemmas.Bool.{cond-true, cond-false, and_from, and_parts, or_cases, or_parts, or_from, or_left, or_right, both_ways, cases_Bool, cases_eq, cases_lt, eq-eqb, ne_eqb, eqb-true, eqb-false, lt-ltb, not-true, not_from_true, not_from_false}
 use Rattle.std.proofs.lemmas.Bool.Decides.{nat_tests}
 use Rattle.store.specs.Reports.{Report, newest_number}
 use Rattle.blocks.specs.Layout.{all_zero, written, number_in, report_in, free_block}
-use Rattle.blocks.specs.Blocks.{lower, insert_report, by_number, intact, has_number, distinct, place_of, first_free}
+use Rattle.blocks.specs.Blocks.{insert_report, by_number, intact, has_number, distinct, place_of, first_free}
 use Rattle.blocks.proofs.Layouts.{zeros}
-use Rattle.blocks.proofs.Sorting.{AtLeast, Below, Ordered, first_number, later, insert_none, insert_front, at_least_insert, below_insert, ordered_insert, length_insert, insert_last, insert_before_last, first_insert, newest_insert}
+use Rattle.blocks.proofs.Sorting.{AtLeast, Below, Ordered, later, insert_none, insert_front, at_least_insert, below_insert, ordered_insert, length_insert, insert_last, insert_before_last, newest_insert}
 
 -- ---- one block
 
@@ -78,13 +78,6 @@ some (b ∷ bs) h =
       | inr k ↦ subst (AtLeast 1) (sym (keep b bs k.0)) (at_least_insert 1 (report_in b) (by_number bs) (positive (number_in b) k.2) rest)
     ]
 
-pub first_cons : (b : List ℕ) (bs : List (List ℕ)) → intact (b ∷ bs) ≡ true → first_number (by_number (b ∷ bs)) ≡ lower (number_in b) (first_number (by_number bs))
-first_cons b bs h =
-    elim (kind_first b bs h) [
-      | inl k ↦ ap first_number (skip b bs k.0) ∙ ap (λ n. lower n (first_number (by_number bs))) (sym k.1)
-      | inr k ↦ ap first_number (keep b bs k.0) ∙ first_insert (report_in b) (by_number bs) k.2 (some bs (intact_rest b bs h))
-    ]
-
 pub newest_cons : (b : List ℕ) (bs : List (List ℕ)) → intact (b ∷ bs) ≡ true → newest_number (by_number (b ∷ bs)) ≡ max (number_in b) (newest_number (by_number bs))
 newest_cons b bs h =
     elim (kind_first b bs h) [
@@ -104,22 +97,25 @@ length_used b bs h e =
 
 -- ---- places
 
-pub place_le : (n : ℕ) (bs : List (List ℕ)) → place_of n bs ≤ length bs
-unfolding place_of
-place_le n [] = omega arith
-place_le n (b ∷ bs) = let k = place_le n bs in grind (arith, nat_tests)
-
 pub place_none : (n : ℕ) → place_of n [] ≡ 0
 unfolding place_of
 place_none n = refl
 
 pub place_here : (n : ℕ) (b : List ℕ) (bs : List (List ℕ)) → number_in b ≡ n → place_of n (b ∷ bs) ≡ 0
 unfolding place_of
-place_here n b bs e = cond-true (eqb (number_in b) n) 0 _ (eq-eqb (number_in b) n e)
+place_here n b bs e = cond-false (not (eqb (number_in b) n)) _ 0 (not_from_true _ (eq-eqb (number_in b) n e))
 
 pub place_later : (n : ℕ) (b : List ℕ) (bs : List (List ℕ)) → (number_in b ≡ n → ⊥) → place_of n (b ∷ bs) ≡ suc (place_of n bs)
 unfolding place_of
-place_later n b bs e = cond-false (eqb (number_in b) n) 0 _ (ne_eqb (number_in b) n e)
+place_later n b bs e = cond-true (not (eqb (number_in b) n)) _ 0 (not_from_false _ (ne_eqb (number_in b) n e)) ∙ omega arith
+
+free_here : (b : List ℕ) (bs : List (List ℕ)) → all_zero b ≡ true → first_free (b ∷ bs) ≡ 0
+unfolding first_free
+free_here b bs z = cond-false (not (all_zero b)) _ 0 (not_from_true _ z)
+
+free_later : (b : List ℕ) (bs : List (List ℕ)) → all_zero b ≡ false → first_free (b ∷ bs) ≡ suc (first_free bs)
+unfolding first_free
+free_later b bs z = cond-true (not (all_zero b)) _ 0 (not_from_false _ z) ∙ omega arith
 
 shifted : (i j n : ℕ) → j ≡ suc i → ltb i n ≡ ltb j (suc n)
 shifted i j n e = grind (arith, nat_tests)
@@ -144,8 +140,8 @@ unfolding first_free
 first_free_is [] h = sym (place_none 0)
 first_free_is (b ∷ bs) h =
     elim (kind_first b bs h) [
-      | inl k ↦ cond-true (all_zero b) 0 _ k.0 ∙ sym (place_here 0 b bs k.1)
-      | inr k ↦ cond-false (all_zero b) 0 _ k.0 ∙ (ap suc (first_free_is bs (intact_rest b bs h)) ∙ sym (place_later 0 b bs k.2))
+      | inl k ↦ free_here b bs k.0 ∙ sym (place_here 0 b bs k.1)
+      | inr k ↦ free_later b bs k.0 ∙ (ap suc (first_free_is bs (intact_rest b bs h)) ∙ sym (place_later 0 b bs k.2))
     ]
 
 -- where a block is free, fewer reports are held than there are blocks; where none is, as many
@@ -264,12 +260,12 @@ put_last (b ∷ bs) blk r i z e h l =
     let rest = intact_rest b bs i in
     elim (kind_first b bs i) [
       | inl k ↦
-          (ap (λ j. by_number (set (b ∷ bs) j blk)) (cond-true (all_zero b) 0 (suc (first_free bs)) k.0)
+          (ap (λ j. by_number (set (b ∷ bs) j blk)) (free_here b bs k.0)
           ∙ (keep blk bs z
           ∙ (ap (λ x. insert_report x (by_number bs)) e
           ∙ (insert_last r (by_number bs) (below_all r.number bs rest p.1) ∙ ap (λ x. x ++ r ∷ []) (sym (skip b bs k.0))))))
       | inr k ↦
-          (let at = cond-false (all_zero b) 0 (suc (first_free bs)) k.0 in
+          (let at = free_later b bs k.0 in
           let ih = put_last bs blk r rest z e p.1 (omega arith) in
           ap (λ j. by_number (set (b ∷ bs) j blk)) at
           ∙ (keep b (set bs (first_free bs) blk) k.0

@@ -1,9 +1,8 @@
 -- A report inserted among reports by rising number.
 use Rattle.std.proofs.Common.{◌≡◌, ℕ, suc, ◌<◌, ◌≤◌, max, ltb, List, [], ◌∷◌, ◌++◌, length, sym, refl, ap, ◌∙◌, inl, inr, arith}
 use Rattle.std.proofs.lemmas.Bool.{cond-true, cond-false, cond_both, lt-ltb, le-ltb, ltb-true, ltb-false, cases_lt}
-use Rattle.std.proofs.lemmas.Bool.Decides.{nat_tests}
 use Rattle.store.specs.Reports.{Report, newest_number}
-use Rattle.blocks.specs.Blocks.{insert_report, lower}
+use Rattle.blocks.specs.Blocks.{insert_report}
 
 -- every number is at least m
 abbrev pub AtLeast : ℕ → List Report → Type 0
@@ -19,11 +18,6 @@ Below m (r ∷ rs) = (r.number < m) × Below m rs
 abbrev pub Ordered : List Report → Type 0
 Ordered [] = Unit {0}
 Ordered (r ∷ rs) = AtLeast r.number rs × Ordered rs
-
--- the number of the first report; 0 where there is none
-abbrev pub first_number : List Report → ℕ
-first_number [] = 0
-first_number (r ∷ rs) = r.number
 
 -- it goes first, or after the first
 front : (r s : Report) (rs : List Report) → r.number < s.number → insert_report r (s ∷ rs) ≡ r ∷ s ∷ rs
@@ -89,15 +83,6 @@ insert_before_last r q (s ∷ rs) h =
       | inl l ↦ front r s (rs ++ q ∷ []) l ∙ ap (λ x. x ++ q ∷ []) (sym (front r s rs l))
       | inr l ↦ later r s (rs ++ q ∷ []) l ∙ (ap (λ x. s ∷ x) (insert_before_last r q rs h) ∙ ap (λ x. x ++ q ∷ []) (sym (later r s rs l)))
     ]
-
--- the first number after an insertion
-pub first_insert : (r : Report) (rs : List Report) → (r.number ≡ 0 → ⊥) → AtLeast 1 rs → first_number (insert_report r rs) ≡ lower r.number (first_number rs)
-unfolding insert_report
-first_insert r [] n a = grind (arith, nat_tests)
-first_insert r (s ∷ rs) n a =
-    cond_both (ltb r.number s.number) (r ∷ s ∷ rs) (s ∷ insert_report r rs) (λ x. first_number x ≡ lower r.number s.number)
-    (λ e. let h = ltb-true r.number s.number e in let k = a.0 in grind (arith, nat_tests))
-    (λ e. let h = ltb-false r.number s.number e in let k = a.0 in grind (arith, nat_tests))
 
 first_le_newest : (s : Report) (rs : List Report) → Ordered (s ∷ rs) → s.number ≤ newest_number (s ∷ rs)
 first_le_newest s [] o = omega arith

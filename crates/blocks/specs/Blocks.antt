@@ -1,5 +1,6 @@
 -- The list of reports that blocks hold, and what becomes of their bytes.
-use Rattle.std.specs.Prelude.{ℕ, zero, suc, ◌*◌, ◌/◌, min, Bool, true, false, cond, not, ◌&&◌, ◌||◌, List, [], ◌∷◌, length, take, drop, ◌==◌, nat_lt}
+use Rattle.std.specs.Prelude.{ℕ, zero, suc, ◌*◌, ◌/◌, Bool, true, cond, not, ◌&&◌, ◌||◌, List, [], ◌∷◌, map, filter, length, take, drop, ◌==◌, nat_lt}
+use Rattle.std.specs.List.{list_all, list_any, position_or_len}
 use Rattle.octets.specs.Places.{placed}
 use Rattle.store.specs.Reports.{Report, put_number}
 use Rattle.blocks.specs.Layout.{all_zero, written, number_in, report_in, block_of, free_block}
@@ -19,15 +20,17 @@ unfoldable pub by_number : List (List ℕ) → List Report
 by_number [] = []
 by_number (b ∷ bs) = cond (all_zero b) (by_number bs) (insert_report (report_in b) (by_number bs))
 
+-- the numbers of the used blocks
+abbrev pub numbers : List (List ℕ) → List ℕ
+numbers bs = filter (λ n. not (n == 0)) (map number_in bs)
+
 -- every block is free or one that a put writes
 unfoldable pub intact : List (List ℕ) → Bool
-intact [] = true
-intact (b ∷ bs) = (all_zero b || written b) && intact bs
+intact bs = list_all (λ b. all_zero b || written b) bs
 
 -- some block has this number
 unfoldable pub has_number : ℕ → List (List ℕ) → Bool
-has_number n [] = false
-has_number n (b ∷ bs) = number_in b == n || has_number n bs
+has_number n bs = list_any (λ b. number_in b == n) bs
 
 -- no two used blocks share a number
 unfoldable pub distinct : List (List ℕ) → Bool
@@ -45,8 +48,7 @@ held_in n bytes = by_number (blocks_of n bytes)
 
 -- the place of the first free block; their count where none is free
 unfoldable pub first_free : List (List ℕ) → ℕ
-first_free [] = 0
-first_free (b ∷ bs) = cond (all_zero b) 0 (suc (first_free bs))
+first_free bs = position_or_len all_zero bs
 
 -- the bytes after a put: one that is taken writes the report's block over the first free one
 unfoldable pub bytes_after_put : ℕ → List ℕ → Report → List ℕ
@@ -55,8 +57,7 @@ bytes_after_put n bytes r =
 
 -- the place of the first block with this number; their count where no block has it
 unfoldable pub place_of : ℕ → List (List ℕ) → ℕ
-place_of n [] = 0
-place_of n (b ∷ bs) = cond (number_in b == n) 0 (suc (place_of n bs))
+place_of n bs = position_or_len (λ b. number_in b == n) bs
 
 -- the bytes with the block of the oldest of these reports free
 unfoldable pub freed : ℕ → List ℕ → List Report → List ℕ
@@ -66,7 +67,3 @@ freed n bytes (r ∷ rs) = placed bytes (place_of r.number (blocks_of n bytes) *
 -- the bytes after a removal: the oldest report's block is free
 abbrev pub bytes_after_remove : ℕ → List ℕ → List ℕ
 bytes_after_remove n bytes = freed n bytes (held_in n bytes)
-
--- the lower of two numbers, where 0 is none
-abbrev pub lower : ℕ → ℕ → ℕ
-lower a b = cond (a == 0) b (cond (b == 0) a (min a b))

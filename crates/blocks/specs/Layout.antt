@@ -1,6 +1,6 @@
 -- How a report lies in a block of 512 bytes; numbers with the highest byte first.
-use Rattle.std.specs.Prelude.{ℕ, ◌+◌, ◌-◌, ◌%◌, Bool, true, not, ◌&&◌, List, [], ◌∷◌, ◌++◌, length, take, replicate, sum, ◌==◌, nat_le, slice_index}
-use Rattle.std.specs.List.{between}
+use Rattle.std.specs.Prelude.{ℕ, ◌+◌, ◌-◌, ◌%◌, Bool, not, ◌&&◌, List, ◌∷◌, ◌++◌, length, take, replicate, sum, ◌==◌, nat_le, slice_index}
+use Rattle.std.specs.List.{between, list_all}
 use Rattle.octets.specs.Big.{be2, be4, num2, num4}
 use Rattle.store.specs.Reports.{Report, body_limit}
 
@@ -23,8 +23,7 @@ free_block = replicate 512 0
 
 -- every byte is 0
 abbrev pub all_zero : List ℕ → Bool
-all_zero [] = true
-all_zero (x ∷ xs) = x == 0 && all_zero xs
+all_zero xs = list_all (λ x. x == 0) xs
 
 -- the number in a block; 0 in a free one
 abbrev pub number_in : List ℕ → ℕ

@@ -4,7 +4,8 @@ ghost use Rattle.blocks.specs.Blocks.{blocks_of, intact, distinct, capacity_of};
 pub mod calls;
 
 // A store over the first `blocks` blocks of `bytes`: all whole ones, or none if the bytes came damaged.
-// The memory is the caller's: it is handed over and given back.
+// The memory is the caller's: it is handed over and given back. The count stands beside it since damaged bytes, whose
+// capacity is 0, are given back too, and to tell them from sound ones takes a look at every byte.
 #[derive(Drop)]
 pub struct BlockStore {
     bytes: Vec<u8>,

@@ -1,131 +1,94 @@
-// Scans over the first `count` blocks of the bytes. A free block has number 0, and a used one another.
-ghost use Rattle.std.specs.Prelude.{◌≡◌, ◌+◌, ◌*◌, ◌<◌, ◌≤◌, true, [], length, drop, slice_index_or};
-ghost use Rattle.store.specs.Reports.{oldest_number, newest_number};
+// Scans over blocks. A free block has number 0, and a used one another. The chain that passes over the used ones stands in
+// each scan: a function that answered it would have to name its closures' types.
+ghost use Rattle.std.specs.Prelude.{◌≡◌, min, max, length, position, ◌==◌};
+ghost use Rattle.std.specs.List.{reduce};
 ghost use Rattle.blocks.specs.Layout.{number_in};
-ghost use Rattle.blocks.specs.Blocks.{blocks_of, place_of, intact, distinct, capacity_of, held_in, lower};
+ghost use Rattle.blocks.specs.Blocks.{numbers, intact, has_number, distinct, capacity_of};
 
-use crate::block::{BLOCK, all_zero, is_written};
+use crate::block::{BLOCK, all_zero, is_written, number_in};
 
-// The number in the block at `place`.
-fn number_at(bytes: &[u8], count: usize, place: usize) -> u32
-    requires room { count * 512 ≤ length bytes.now }
-    requires within { place < count }
-    ensures { result ≡ number_in (slice_index_or (blocks_of count bytes.now) place []) }
+// The place of the first block that has the number.
+pub(crate) fn place_of(blocks: &[[u8; BLOCK]], number: u32) -> Option<usize>
+    ensures { result ≡ position (λ b. number_in b == number) blocks.now }
 {
-    let from = place * BLOCK;
-    u32::from_be_bytes([
-        bytes[from],
-        bytes[from + 1],
-        bytes[from + 2],
-        bytes[from + 3],
-    ])
+    blocks.iter().position(|block| number_in(block) == number)
 }
 
-// The place of the first block from `start` on that has the number; `count` where there is none.
-pub(crate) fn place_of(bytes: &[u8], count: usize, start: usize, number: u32) -> usize
-    requires room { count * 512 ≤ length bytes.now }
-    requires within { start ≤ count }
-    ensures { result ≡ start + place_of number (drop start (blocks_of count bytes.now)) }
+// The lowest number of a used block.
+pub(crate) fn lowest_number(blocks: &[[u8; BLOCK]]) -> Option<u32>
+    ensures { result ≡ reduce min (numbers blocks.now) }
 {
-    for place in start..count {
-        if number_at(bytes, count, place) == number {
-            return place;
-        }
-    }
-    count
+    blocks
+        .iter()
+        .map(number_in)
+        .filter(|number| *number != 0)
+        .min()
 }
 
-// The lower of two numbers, where 0 is none.
-fn lower_of(a: u32, b: u32) -> u32
-    ensures { result ≡ lower a b }
+// The highest number of a used block.
+pub(crate) fn highest_number(blocks: &[[u8; BLOCK]]) -> Option<u32>
+    ensures { result ≡ reduce max (numbers blocks.now) }
 {
-    if a == 0 {
-        b
-    } else if b == 0 {
-        a
-    } else {
-        a.min(b)
-    }
+    blocks
+        .iter()
+        .map(number_in)
+        .filter(|number| *number != 0)
+        .max()
 }
 
-// The number of the oldest report.
-pub(crate) fn oldest_number(bytes: &[u8], count: usize) -> Option<u32>
-    requires room { count * 512 ≤ length bytes.now }
-    requires whole { intact (blocks_of count bytes.now) ≡ true }
-    ensures { result ≡ oldest_number (held_in count bytes.now) }
+// How many blocks are used.
+pub(crate) fn used_count(blocks: &[[u8; BLOCK]]) -> usize
+    ensures { result ≡ length (numbers blocks.now) }
 {
-    let mut least = 0;
-    for place in 0..count {
-        least = lower_of(least, number_at(bytes, count, place));
-    }
-    if least == 0 { None } else { Some(least) }
-}
-
-// The number of the newest report; 0 where there is none.
-pub(crate) fn newest_number(bytes: &[u8], count: usize) -> u32
-    requires room { count * 512 ≤ length bytes.now }
-    requires whole { intact (blocks_of count bytes.now) ≡ true }
-    ensures { result ≡ newest_number (held_in count bytes.now) }
-{
-    let mut most: u32 = 0;
-    for place in 0..count {
-        most = most.max(number_at(bytes, count, place));
-    }
-    most
-}
-
-// How many reports are held.
-pub(crate) fn held_count(bytes: &[u8], count: usize) -> usize
-    requires room { count * 512 ≤ length bytes.now }
-    requires whole { intact (blocks_of count bytes.now) ≡ true }
-    ensures { result ≡ length (held_in count bytes.now) }
-{
-    let mut held = 0;
-    for place in 0..count {
-        if number_at(bytes, count, place) != 0 {
-            held += 1;
-        }
-    }
-    held
+    blocks
+        .iter()
+        .map(number_in)
+        .filter(|number| *number != 0)
+        .count()
 }
 
 // Whether every block is free or one that a put writes.
-pub(crate) fn is_intact(bytes: &[u8], count: usize) -> bool
-    requires { count * 512 ≤ length bytes.now }
-    ensures { result ≡ intact (blocks_of count bytes.now) }
+#[tactic(auto, unfolding(crate::specs::Blocks::intact))]
+fn is_intact(blocks: &[[u8; BLOCK]]) -> bool
+    ensures { result ≡ intact blocks.now }
 {
-    for place in 0..count {
-        let from = place * BLOCK;
-        let block = &bytes[from..from + BLOCK];
-        if !all_zero(block) && !is_written(block) {
-            return false;
-        }
-    }
-    true
+    blocks
+        .iter()
+        .all(|block| all_zero(block) || is_written(block))
+}
+
+// Whether some block has the number.
+#[tactic(auto, unfolding(crate::specs::Blocks::has_number))]
+fn has_number(blocks: &[[u8; BLOCK]], number: u32) -> bool
+    ensures { result ≡ has_number number blocks.now }
+{
+    blocks.iter().any(|block| number_in(block) == number)
 }
 
 // Whether no two used blocks share a number.
-pub(crate) fn is_distinct(bytes: &[u8], count: usize) -> bool
-    requires room { count * 512 ≤ length bytes.now }
-    requires whole { intact (blocks_of count bytes.now) ≡ true }
-    ensures { result ≡ distinct (blocks_of count bytes.now) }
+#[tactic(auto, unfolding(crate::specs::Blocks::distinct))]
+fn is_distinct(blocks: &[[u8; BLOCK]]) -> bool
+    ensures { result ≡ distinct blocks.now }
 {
-    for place in 0..count {
-        let number = number_at(bytes, count, place);
-        if number != 0 && place_of(bytes, count, place + 1, number) < count {
+    let mut rest = blocks;
+    while let Some((block, later)) = rest.split_first() {
+        if !all_zero(block) && has_number(later, number_in(block)) {
             return false;
         }
+        rest = later;
     }
     true
 }
 
 // How many blocks a store over the bytes has.
+#[tactic(auto, using(crate::proofs::Cutting::chunks_are), unfolding(crate::specs::Blocks::capacity_of))]
 pub(crate) fn sound_blocks(bytes: &[u8]) -> usize
     ensures { result ≡ capacity_of bytes.now }
 {
-    let whole = bytes.len() / BLOCK;
-    if is_intact(bytes, whole) && is_distinct(bytes, whole) {
-        return whole;
+    let (blocks, _) = bytes.as_chunks::<BLOCK>();
+    if is_intact(blocks) && is_distinct(blocks) {
+        blocks.len()
+    } else {
+        0
     }
-    0
 }

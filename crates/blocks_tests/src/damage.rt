@@ -1,5 +1,5 @@
 // Bytes that no puts and removals leave: the store has capacity 0 and an empty list, and its bytes stay as they are.
-use crate::sample::{block, pair, sealed};
+use crate::sample::{block, pair, put, sealed};
 use blocks::block_store::BlockStore;
 use std::process::Abort;
 use std::test::Fail;
@@ -15,8 +15,8 @@ fn check_broken(rt: &impl Abort, bytes: Vec<u8>) -> Result<(), Fail> {
     let mut buffer = [7; 480];
     assert!(rt; store.read(&mut buffer).is_none());
     assert!(rt; buffer == [7; 480]);
-    assert_eq!(rt; store.put(9, 6, 11, &[1]).number(), 1);
-    assert_eq!(rt; store.put(0, 6, 11, &[1]).number(), 3);
+    assert_eq!(rt; put(&mut store, 9, &[1]), 1);
+    assert_eq!(rt; put(&mut store, 0, &[1]), 3);
     store.remove();
     assert_eq!(rt; store.capacity(), 0);
     assert!(rt; store.into_bytes() == before);

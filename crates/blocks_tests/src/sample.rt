@@ -1,15 +1,17 @@
-// Blocks written out by hand.
+// Blocks written out by hand, and puts of small reports.
+use blocks::block_store::BlockStore;
 use std::alloc::{AllocError, Global};
+use store::Store;
+use store::answers::answer_number;
+use store::report::Report;
 
 // The block with its check, whatever stands before that.
 pub(crate) fn sealed(mut block: [u8; 512]) -> [u8; 512] {
-    let mut check: u16 = 0;
-    for b in &block[0..510] {
-        check = check.wrapping_add(*b as u16);
-    }
-    let [high, low] = check.to_be_bytes();
-    block[510] = high;
-    block[511] = low;
+    let check = block
+        .iter()
+        .take(510)
+        .fold(0u16, |check, byte| check.wrapping_add(u16::from(*byte)));
+    block[510..].copy_from_slice(&check.to_be_bytes());
     block
 }
 
@@ -32,7 +34,16 @@ pub(crate) fn pair(
     first: [u8; 512],
     second: [u8; 512],
 ) -> Result<Vec<u8>, AllocError> {
-    let mut bytes = first.to_vec(heap)?;
-    bytes.extend_from_slice(&second)?;
-    Ok(bytes)
+    [first, second].as_flattened().to_vec(heap)
+}
+
+// The number that a put of an S6,F11 report answers.
+pub(crate) fn put(store: &mut BlockStore, number: u32, body: &[u8]) -> u8 {
+    let report = Report {
+        number,
+        stream: 6,
+        function: 11,
+        body,
+    };
+    answer_number(store.put(report))
 }

@@ -2,8 +2,9 @@
 use Rattle.std.proofs.Common.{◌≡◌, ℕ, ◌+◌, ◌<◌, ◌≤◌, Bool, true, false, cond, ◌||◌, eqb, ltb, leb, List, [], ◌∷◌, ◌++◌, length, take, drop, Option, sym, refl, ap, ◌∙◌, subst, arith}
 use Rattle.std.proofs.lemmas.List.{length-append}
 use Rattle.std.proofs.lemmas.Bool.{cond-false, eqb-false, le-ltb, leb-false}
-use Rattle.store.specs.Answers.{read_answer, read_body}
-use Rattle.store.specs.Reports.{Report, after_put, after_remove, newest_number, put_number, unfit}
+use Rattle.store.specs.Answers.{Reads, read_answer, read_body}
+use Rattle.store.specs.Lent.{report_of}
+use Rattle.store.specs.Reports.{Report, after_put, after_remove, newest_number, unfit}
 use Rattle.store.specs.declared.answers.Copied.{Copied}
 use Rattle.replay.specs.declared.steps.Step.{Step}
 use Rattle.replay.specs.declared.steps.Step.TheVariants.{Put, Remove}
@@ -51,7 +52,7 @@ remove_sound capacity [] s = s
 remove_sound capacity (r ∷ rs) s = record { rising = rising_lower r.number 0 rs (omega arith) s.rising.1; within = omega (arith, s.within) }
 
 step_sound : (capacity : ℕ) (x : Step) (held : List Report) → Sound capacity held → Sound capacity (after_step capacity x held)
-step_sound capacity (Put n st f body) held s = put_sound capacity held (record { number = n; stream = st; function = f; body = body.now }) s
+step_sound capacity (Put report) held s = put_sound capacity held (report_of report) s
 step_sound capacity Remove held s = remove_sound capacity held s
 
 steps_sound : (capacity : ℕ) (xs : List Step) (held : List Report) → Sound capacity held → Sound capacity (after_steps capacity xs held)
@@ -74,9 +75,6 @@ pub record EndsWith (r : Report) (held : List Report) : Type 0 where
   pub before : List Report
   pub is : held ≡ before ++ (r ∷ [])
 
-pub put_ends : (held after : List Report) (capacity : ℕ) (r : Report) → put_number held capacity r ≡ 0 → after ≡ after_put held capacity r → EndsWith r after
-put_ends held after capacity r z e = record { before = held; is = e ∙ ap (λ (n : ℕ). cond (eqb n 0) (held ++ (r ∷ [])) held) z }
-
 pub removed_ends : (r : Report) (held after : List Report) → EndsWith r held → 1 < length held → after ≡ after_remove held → EndsWith r after
 removed_ends r held after p l e = go p.before p.is
   where
@@ -86,13 +84,6 @@ removed_ends r held after p l e = go p.before p.is
         short : length held ≡ 1 → ⊥
         short k = omega arith
     go (x ∷ xs) q = record { before = xs; is = e ∙ ap after_remove q }
-
-pub removed_less : (held after : List Report) → 1 < length held → after ≡ after_remove held → length after < length held
-removed_less [] after l e = absurd (none l)
-  where
-    none : 1 < 0 → ⊥
-    none k = omega arith
-removed_less (x ∷ xs) after l e = omega (arith, ap length e)
 
 pub only_left : (r : Report) (held : List Report) → EndsWith r held → length held ≤ 1 → held ≡ r ∷ []
 only_left r held p l = go p.before p.is
@@ -104,15 +95,13 @@ only_left r held p l = go p.before p.is
         long : length held ≡ length (x ∷ xs) + 1 → ⊥
         long k = omega arith
 
-pub read_back : (r : Report) (held : List Report) (told : Option Copied) (xs ys : List ℕ) → held ≡ r ∷ [] → 480 ≤ length xs
-    → told ≡ read_answer held (length xs) → take (length (read_body held (length xs))) ys ≡ read_body held (length xs) → drop (length (read_body held (length xs))) ys ≡ drop (length (read_body held (length xs))) xs
-    → ReadBack r told xs ys held
-read_back r held told xs ys o n a b d =
+pub read_back : (r : Report) (held : List Report) (told : Option Copied) (xs ys : List ℕ) → held ≡ r ∷ [] → 480 ≤ length xs → Reads held told xs ys → ReadBack r told xs ys held
+read_back r held told xs ys o n p =
     let full : ltb (length xs) 480 ≡ false = le-ltb (length xs) 480 n in
     let body : read_body held (length xs) ≡ r.body = ap (λ (l : List Report). read_body l (length xs)) o ∙ cond-false _ [] r.body full in
     record {
-      answer = a ∙ (ap (λ (l : List Report). read_answer l (length xs)) o ∙ cond-false _ _ _ full);
-      front = subst (λ (k : List ℕ). take (length k) ys ≡ k) body b;
-      later = subst (λ (k : List ℕ). drop (length k) ys ≡ drop (length k) xs) body d;
+      answer = p.answer ∙ (ap (λ (l : List Report). read_answer l (length xs)) o ∙ cond-false _ _ _ full);
+      front = subst (λ (k : List ℕ). take (length k) ys ≡ k) body p.body;
+      later = subst (λ (k : List ℕ). drop (length k) ys ≡ drop (length k) xs) body p.later;
       only = o;
     }

@@ -1,13 +1,14 @@
 -- Steps on a store, one after another.
 use Rattle.std.specs.Prelude.{◌≡◌, ℕ, ◌<◌, List, [], ◌∷◌, length, take, drop, Some, Option}
 use Rattle.store.specs.Reports.{Report, after_put, after_remove}
+use Rattle.store.specs.Lent.{report_of}
 use Rattle.store.specs.declared.answers.Copied.{Copied}
 use Rattle.replay.specs.declared.steps.Step.{Step}
 use Rattle.replay.specs.declared.steps.Step.TheVariants.{Put, Remove}
 
 -- the list after a step on a store of a capacity
 abbrev pub after_step : ℕ → Step → List Report → List Report
-after_step capacity (Put n s f body) held = after_put held capacity (record { number = n; stream = s; function = f; body = body.now })
+after_step capacity (Put report) held = after_put held capacity (report_of report)
 after_step capacity Remove held = after_remove held
 
 -- and after many

@@ -1,17 +1,19 @@
 ghost use Rattle.std.specs.Prelude.{◌≡◌, ◌≤◌, [], length, None, ◌≢◌};
 ghost use Rattle.replay.specs.Runs.{ReadBack, Rising, after_step, after_steps};
-ghost use Rattle.store.specs.Reports.{put_number};
+ghost use Rattle.store.specs.Lent.{report_of};
+ghost use Rattle.store.specs.Reports.{body_limit, put_number};
 
 use store::Store;
-use store::answers::{Copied, PutAnswer};
+use store::answers::Copied;
+use store::report::Report;
 
-// One step on a store.
+// One step on a store as a value: a run is a list of them.
 #[derive(Clone, Copy)]
 pub enum Step<'a> {
     // A removal of the oldest report.
     Remove,
-    // A put of a report: number, stream, function and body.
-    Put(u32, u8, u8, &'a [u8]),
+    // A put of a report.
+    Put(Report<'a>),
 }
 
 // Takes the steps one after another. From an empty store the list then rises strictly in its numbers and is within the
@@ -31,8 +33,8 @@ fn take_step<S: Store>(store: &mut S, step: Step<'_>)
     ensures capacity { S.Store.limit store.new ≡ S.Store.limit store.old }
 {
     match step {
-        Step::Put(number, stream, function, body) => {
-            let _ = store.put(number, stream, function, body);
+        Step::Put(report) => {
+            let _ = store.put(report);
         }
         Step::Remove => store.remove(),
     }
@@ -41,20 +43,14 @@ fn take_step<S: Store>(store: &mut S, step: Step<'_>)
 // Puts a report and, where it is taken, removes every older one and reads it back.
 pub fn put_and_read<S: Store>(
     store: &mut S,
-    number: u32,
-    stream: u8,
-    function: u8,
-    body: &[u8],
+    report: Report<'_>,
     buffer: &mut [u8],
 ) -> Option<Copied>
-    ensures law { put_number (S.Store.records store.old) (S.Store.limit store.old) (record { number = number; stream = stream; function = function; body = body.now }) ≡ 0 → 480 ≤ length buffer.old → ReadBack (record { number = number; stream = stream; function = function; body = body.now }) result buffer.old buffer.new (S.Store.records store.new) }
-    ensures refused { (put_number (S.Store.records store.old) (S.Store.limit store.old) (record { number = number; stream = stream; function = function; body = body.now }) ≢ 0) → (result ≡ None) × (S.Store.records store.new ≡ S.Store.records store.old) × (buffer.new ≡ buffer.old) }
+    ensures law { put_number (S.Store.records store.old) (S.Store.limit store.old) (report_of report.entry) ≡ 0 → body_limit ≤ length buffer.old → ReadBack (report_of report.entry) result buffer.old buffer.new (S.Store.records store.new) }
+    ensures refused { (put_number (S.Store.records store.old) (S.Store.limit store.old) (report_of report.entry) ≢ 0) → (result ≡ None) × (S.Store.records store.new ≡ S.Store.records store.old) × (buffer.new ≡ buffer.old) }
     ensures capacity { S.Store.limit store.new ≡ S.Store.limit store.old }
 {
-    match store.put(number, stream, function, body) {
-        PutAnswer::Taken => {}
-        PutAnswer::Full | PutAnswer::Stale | PutAnswer::Unfit => return None,
-    }
+    store.put(report).ok()?;
     while store.count() > 1 {
         store.remove();
     }

@@ -1,4 +1,3 @@
-pub mod Copying
 pub mod Puts
 pub mod Turning
 pub mod Reading

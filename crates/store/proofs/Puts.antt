@@ -20,8 +20,5 @@ module _ (held : List Report) (capacity : ℕ) (r : Report) (fit : unfit r ≡ f
   pub put_taken : length held < capacity → put_number held capacity r ≡ 0
   put_taken h = above ∙ cond-false _ 1 0 (lt-leb capacity (length held) h)
 
-  pub after_full : capacity ≤ length held → after_put held capacity r ≡ held
-  after_full h = ap (λ (x : ℕ). cond (eqb x 0) (held ++ (r ∷ [])) held) (put_full h)
-
   pub after_taken : length held < capacity → after_put held capacity r ≡ held ++ (r ∷ [])
   after_taken h = ap (λ (x : ℕ). cond (eqb x 0) (held ++ (r ∷ [])) held) (put_taken h)

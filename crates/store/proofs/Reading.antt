@@ -1,9 +1,9 @@
 -- What a read tells.
-use Rattle.std.proofs.Common.{◌≡◌, ℕ, ◌≤◌, Bool, true, false, cond, ltb, List, [], ◌∷◌, length, take, Some, None, refl, ap, ◌∙◌, arith}
+use Rattle.std.proofs.Common.{◌≡◌, ℕ, ◌≤◌, Bool, true, false, cond, ltb, List, [], ◌∷◌, length, take, Some, None, Option, refl, ap, ◌∙◌, arith}
 use Rattle.std.proofs.lemmas.List.{length-take}
 use Rattle.std.proofs.lemmas.Bool.{le-ltb}
 use Rattle.store.specs.Reports.{Report}
-use Rattle.store.specs.Answers.{read_answer, read_body}
+use Rattle.store.specs.Answers.{Reads, read_answer, read_body}
 use Rattle.store.specs.declared.answers.Copied.{Copied}
 
 -- a read that answers has read the oldest report, whose body stands at the front of the buffer
@@ -46,3 +46,7 @@ none_full false c f e = let z : ◌≡◌ {A = ℕ} 0 1 = cc in omega arith
 pub read_none : (held : List Report) (n : ℕ) → 480 ≤ n → None ≡ read_answer held n → held ≡ []
 read_none [] n h e = refl
 read_none (r ∷ rs) n h e = absurd (none_full (ltb n 480) (record { number = r.number; stream = r.stream; function = r.function; length = length r.body }) (le-ltb n 480 h) e)
+
+-- a read looks at the first report only
+pub read_longer : (r : Report) (rs : List Report) (told : Option Copied) (before after : List ℕ) → Reads (r ∷ []) told before after → Reads (r ∷ rs) told before after
+read_longer r rs told before after p = record { answer = p.answer; body = p.body; later = p.later }

@@ -1,11 +1,12 @@
-ghost use Rattle.std.specs.Prelude.{◌≡◌};
-ghost use Rattle.store.specs.Answers.{answer_number};
+ghost use Rattle.std.specs.Prelude.{◌≡◌, Some};
+ghost use Rattle.store.specs.Answers.{answer_number, refusal_text};
 
-// What a put answers; its number is `answer_number` of specs/Answers.antt.
+use std::error::Error;
+use std::fmt;
+
+// Why a put adds nothing.
 #[derive(Clone, Copy, PartialEq, Eq, Debug)]
-pub enum PutAnswer {
-    // The report is held now.
-    Taken,
+pub enum PutRefusal {
     // The store is at capacity.
     Full,
     // The number is not above the newest that is held.
@@ -14,16 +15,29 @@ pub enum PutAnswer {
     Unfit,
 }
 
-impl PutAnswer {
-    pub fn number(self) -> u8
-        ensures { result ≡ answer_number self }
-    {
+impl fmt::Display for PutRefusal {
+    ghost output = { λ r. Some (refusal_text r) };
+
+    fn fmt<W: fmt::Write>(&self, f: &mut fmt::Formatter<W>) -> fmt::Result {
         match self {
-            PutAnswer::Taken => 0,
-            PutAnswer::Full => 1,
-            PutAnswer::Stale => 2,
-            PutAnswer::Unfit => 3,
+            PutRefusal::Full => write!(f, "the store is at capacity"),
+            PutRefusal::Stale => write!(f, "the number is not above the newest that is held"),
+            PutRefusal::Unfit => write!(f, "the number is 0 or the body is too long"),
         }
+    }
+}
+
+impl Error for PutRefusal {}
+
+// The number of a put's answer. A function: there is no From for a Result of others' types.
+pub fn answer_number(answer: Result<(), PutRefusal>) -> u8
+    ensures { result ≡ answer_number answer }
+{
+    match answer {
+        Ok(()) => 0,
+        Err(PutRefusal::Full) => 1,
+        Err(PutRefusal::Stale) => 2,
+        Err(PutRefusal::Unfit) => 3,
     }
 }
 

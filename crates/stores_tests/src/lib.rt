@@ -8,7 +8,9 @@ mod tests {
     use std::process::Abort;
     use std::test::Fail;
     use store::Store;
+    use store::answers::answer_number;
     use store::record::Record;
+    use store::report::Report;
     use store::ring::Ring;
 
     // number, answer of put, count after it
@@ -22,11 +24,21 @@ mod tests {
         (8, 2, 2),
     ];
 
+    // An S6,F11 report.
+    fn event(number: u32, body: &[u8]) -> Report<'_> {
+        Report {
+            number,
+            stream: 6,
+            function: 11,
+            body,
+        }
+    }
+
     // The table on an empty store of capacity 2, then removals down to nothing.
     fn table<S: Store>(rt: &impl Abort, store: &mut S) {
         assert_eq!(rt; store.oldest(), None);
         for (number, answer, count) in ROWS {
-            assert_eq!(rt; store.put(number, 6, 11, b"body").number(), answer);
+            assert_eq!(rt; answer_number(store.put(event(number, b"body"))), answer);
             assert_eq!(rt; store.count(), count);
         }
         assert_eq!(rt; store.oldest(), Some(7));
@@ -40,24 +52,30 @@ mod tests {
 
     // Capacity 1 holding 7: put 7 answers 2, put 8 answers 1.
     fn edge<S: Store>(rt: &impl Abort, store: &mut S) {
-        assert_eq!(rt; store.put(7, 6, 11, b"").number(), 0);
-        assert_eq!(rt; store.put(7, 6, 11, b"").number(), 2);
-        assert_eq!(rt; store.put(8, 6, 11, b"").number(), 1);
+        for (number, answer) in [(7, 0), (7, 2), (8, 1)] {
+            assert_eq!(rt; answer_number(store.put(event(number, b""))), answer);
+        }
     }
 
     // More steps than places, so that a ring wraps, and a report that is read back.
     fn wrapped<S: Store>(rt: &impl Abort, store: &mut S) {
         let steps = [
-            Step::Put(1, 6, 11, b"a"),
-            Step::Put(2, 6, 11, b"b"),
+            Step::Put(event(1, b"a")),
+            Step::Put(event(2, b"b")),
             Step::Remove,
-            Step::Put(3, 6, 11, b"c"),
+            Step::Put(event(3, b"c")),
             Step::Remove,
         ];
         replay(store, &steps);
         assert_eq!(rt; store.oldest(), Some(3));
         let mut buffer = [1u8; 480];
-        let copied = put_and_read(store, 4, 5, 1, b"wet", &mut buffer);
+        let alarm = Report {
+            number: 4,
+            stream: 5,
+            function: 1,
+            body: b"wet",
+        };
+        let copied = put_and_read(store, alarm, &mut buffer);
         assert_eq!(rt; copied.is_some(), true);
         assert_eq!(rt; buffer[0], b'w');
         assert_eq!(rt; buffer[2], b't');

@@ -1,14 +1,17 @@
-ghost use Rattle.std.specs.Prelude.{◌≡◌};
+ghost use Rattle.std.specs.Prelude.{◌≡◌, true};
 ghost use Rattle.store.specs.Answers.{answer_number};
+ghost use Rattle.store.specs.Lent.{report_of};
 ghost use Rattle.store.specs.Reports.{put_number, after_put, after_remove};
-ghost use Rattle.blocks.specs.Blocks.{capacity_of, held_in, bytes_after_put, bytes_after_remove};
+ghost use Rattle.blocks.specs.Blocks.{blocks_of, by_number, intact, capacity_of, held_in, bytes_after_put, bytes_after_remove};
 ghost use Rattle.blocks.specs.Stores.{bytes_of, reports_of};
 
-use crate::block::{BLOCK, BODY, copy_out, free_at, write_at};
+use crate::block::{BLOCK, block_of, report_in};
 use crate::block_store::BlockStore;
-use crate::scan::{held_count, newest_number, oldest_number, place_of, sound_blocks};
+use crate::scan::{highest_number, lowest_number, place_of, sound_blocks, used_count};
+use octets::copy_at;
 use store::Store;
-use store::answers::{Copied, PutAnswer};
+use store::answers::{Copied, PutRefusal};
+use store::report::{BODY_LIMIT, Report};
 
 impl BlockStore {
     // A store over the bytes as they are.
@@ -27,11 +30,17 @@ impl BlockStore {
         ensures capacity { capacity_of result.items ≡ self.blocks }
         ensures list { held_in (capacity_of result.items) result.items ≡ reports_of self }
     {
-        let BlockStore {
-            bytes: memory,
-            blocks: _,
-        } = self;
-        memory
+        self.bytes
+    }
+
+    // The blocks that hold the reports.
+    fn blocks(&self) -> &[[u8; BLOCK]]
+        ensures cut { result.now ≡ blocks_of self.now.blocks (bytes_of self.now) }
+        ensures whole { intact result.now ≡ true }
+        ensures list { by_number result.now ≡ reports_of self.now }
+    {
+        let (blocks, _) = self.bytes.as_chunks::<BLOCK>();
+        &blocks[..self.blocks]
     }
 }
 
@@ -40,55 +49,54 @@ impl Store for BlockStore {
 
     ghost limit = { λ s. s.blocks };
 
-    fn put(&mut self, number: u32, stream: u8, function: u8, body: &[u8]) -> PutAnswer
-        ensures answer { answer_number result ≡ put_number (reports_of self.old) self.old.blocks (record { number = number; stream = stream; function = function; body = body.now }) }
-        ensures list { reports_of self.new ≡ after_put (reports_of self.old) self.old.blocks (record { number = number; stream = stream; function = function; body = body.now }) }
+    fn put(&mut self, report: Report<'_>) -> Result<(), PutRefusal>
+        ensures answer { answer_number result ≡ put_number (reports_of self.old) self.old.blocks (report_of report.entry) }
+        ensures list { reports_of self.new ≡ after_put (reports_of self.old) self.old.blocks (report_of report.entry) }
         ensures same { self.new.blocks ≡ self.old.blocks }
-        ensures bytes { bytes_of self.new ≡ bytes_after_put self.old.blocks (bytes_of self.old) (record { number = number; stream = stream; function = function; body = body.now }) }
+        ensures bytes { bytes_of self.new ≡ bytes_after_put self.old.blocks (bytes_of self.old) (report_of report.entry) }
     {
-        if number == 0 || body.len() > BODY {
-            return PutAnswer::Unfit;
+        if report.number == 0 || report.body.len() > BODY_LIMIT {
+            return Err(PutRefusal::Unfit);
         }
-        let bytes = self.bytes.as_slice();
-        if number <= newest_number(bytes, self.blocks) {
-            return PutAnswer::Stale;
+        if highest_number(self.blocks()).is_some_and(|newest| report.number <= newest) {
+            return Err(PutRefusal::Stale);
         }
-        let place = place_of(bytes, self.blocks, 0, 0);
-        if place >= self.blocks {
-            return PutAnswer::Full;
-        }
-        write_at(&mut self.bytes, place, number, stream, function, body);
-        PutAnswer::Taken
+        let place = place_of(self.blocks(), 0).ok_or(PutRefusal::Full)?;
+        copy_at(&mut self.bytes, place * BLOCK, &block_of(report));
+        Ok(())
     }
 
+    #[tactic(auto, using(crate::proofs::Scanning::oldest_is))]
     fn oldest(&self) -> Option<u32> {
-        oldest_number(&self.bytes, self.blocks)
+        lowest_number(self.blocks())
     }
 
+    #[tactic(auto, using(crate::proofs::Scanning::oldest_is))]
     fn read(&self, buffer: &mut [u8]) -> Option<Copied> {
-        let bytes = self.bytes.as_slice();
-        let Some(number) = oldest_number(bytes, self.blocks) else {
-            return None;
-        };
-        let from = place_of(bytes, self.blocks, 0, number) * BLOCK;
-        copy_out(&bytes[from..from + BLOCK], buffer)
+        let blocks = self.blocks();
+        let number = lowest_number(blocks)?;
+        let place = place_of(blocks, number)?;
+        report_in(&blocks[place]).copy_out(buffer)
     }
 
+    #[tactic(auto, using(crate::proofs::Scanning::oldest_is))]
     fn remove(&mut self)
         ensures list { reports_of self.new ≡ after_remove (reports_of self.old) }
         ensures same { self.new.blocks ≡ self.old.blocks }
         ensures bytes { bytes_of self.new ≡ bytes_after_remove self.old.blocks (bytes_of self.old) }
     {
-        let bytes = self.bytes.as_slice();
-        let Some(number) = oldest_number(bytes, self.blocks) else {
+        let Some(number) = lowest_number(self.blocks()) else {
             return;
         };
-        let place = place_of(bytes, self.blocks, 0, number);
-        free_at(&mut self.bytes, place);
+        let Some(place) = place_of(self.blocks(), number) else {
+            return;
+        };
+        copy_at(&mut self.bytes, place * BLOCK, &[0; BLOCK]);
     }
 
+    #[tactic(auto, using(crate::proofs::Scanning::used_are))]
     fn count(&self) -> usize {
-        held_count(&self.bytes, self.blocks)
+        used_count(self.blocks())
     }
 
     fn capacity(&self) -> usize {

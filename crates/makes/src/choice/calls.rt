@@ -2,17 +2,18 @@ ghost use Rattle.makes.specs.Makes.{held_by, limit_of};
 
 use crate::choice::AnyStore;
 use store::Store;
-use store::answers::{Copied, PutAnswer};
+use store::answers::{Copied, PutRefusal};
+use store::report::Report;
 
 impl Store for AnyStore {
     ghost records = { held_by };
 
     ghost limit = { limit_of };
 
-    fn put(&mut self, number: u32, stream: u8, function: u8, body: &[u8]) -> PutAnswer {
+    fn put(&mut self, report: Report<'_>) -> Result<(), PutRefusal> {
         match self {
-            AnyStore::Slots(ring) => ring.put(number, stream, function, body),
-            AnyStore::Blocks(blocks) => blocks.put(number, stream, function, body),
+            AnyStore::Slots(ring) => ring.put(report),
+            AnyStore::Blocks(blocks) => blocks.put(report),
         }
     }
 

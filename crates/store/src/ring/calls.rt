@@ -1,16 +1,18 @@
-ghost use Rattle.std.specs.Prelude.{◌≡◌, ℕ, ◌+◌, ◌<◌, List, [], length, vec_len};
+ghost use Rattle.std.specs.Prelude.{◌≡◌, ℕ, ◌+◌, ◌<◌, List, [], length, vec_len, MatchOption};
+ghost use Rattle.std.specs.Option.{option_copied};
 ghost use Rattle.store.specs.Reports.{newest_number};
-ghost use Rattle.store.specs.Rings.{ring_reports, slot_place};
+ghost use Rattle.store.specs.Rings.{report_in, reports_of, slot_place};
 
 use crate::Store;
-use crate::answers::{Copied, PutAnswer};
+use crate::answers::{Copied, PutRefusal};
 use crate::record::Record;
+use crate::report::Report;
 use crate::ring::Ring;
 
 impl Ring {
     // An empty ring over these slots; as many as there are, so many reports it holds.
     pub fn new(slots: Vec<Record>) -> Ring
-        ensures empty { ring_reports result.slots.items result.first result.count ≡ [] }
+        ensures empty { reports_of result ≡ [] }
         ensures memory { result.slots ≡ slots }
     {
         Ring {
@@ -41,39 +43,42 @@ impl Ring {
         if k < ahead { self.first + k } else { k - ahead }
     }
 
-    fn newest(&self) -> u32
-        ensures { result ≡ newest_number (ring_reports self.now.slots.items self.now.first self.now.count) }
+    // The slot of the newest report.
+    fn newest(&self) -> Option<&Record>
+        ensures { MatchOption (option_copied result) (reports_of self.now ≡ []) (λ s. (report_in s).number ≡ newest_number (reports_of self.now)) }
     {
         if self.count == 0 {
-            return 0;
+            return None;
         }
         let last = self.slot(self.count - 1);
-        self.slots[last].number()
+        Some(&self.slots[last])
     }
 }
 
 impl Store for Ring {
-    ghost records = { λ s. ring_reports s.slots.items s.first s.count };
+    ghost records = { reports_of };
 
     ghost limit = { λ s. vec_len s.slots };
 
-    fn put(&mut self, number: u32, stream: u8, function: u8, body: &[u8]) -> PutAnswer {
-        if number == 0 {
-            return PutAnswer::Unfit;
+    // Each make finds its newest report and its room in its own way, so that the three refusals stand in each.
+    fn put(&mut self, report: Report<'_>) -> Result<(), PutRefusal> {
+        if report.number == 0 {
+            return Err(PutRefusal::Unfit);
         }
-        let Some(filled) = Record::new(number, stream, function, body) else {
-            return PutAnswer::Unfit;
-        };
-        if number <= self.newest() {
-            return PutAnswer::Stale;
+        let filled = Record::new(report).ok_or(PutRefusal::Unfit)?;
+        if self
+            .newest()
+            .is_some_and(|newest| report.number <= newest.number())
+        {
+            return Err(PutRefusal::Stale);
         }
         if self.count >= self.slots.len() {
-            return PutAnswer::Full;
+            return Err(PutRefusal::Full);
         }
         let at = self.slot(self.count);
         self.slots[at] = filled;
         self.count += 1;
-        PutAnswer::Taken
+        Ok(())
     }
 
     fn oldest(&self) -> Option<u32> {

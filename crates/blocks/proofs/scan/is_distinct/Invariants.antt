@@ -1,6 +1,9 @@
-use Rattle.std.proofs.Common.{◌≡◌, drop}
-use Rattle.blocks.specs.Blocks.{blocks_of, distinct}
+use Rattle.std.proofs.Common.{◌≡◌, length}
+use Rattle.blocks.specs.Blocks.{distinct}
 use Rattle.blocks.proofs.scan.is_distinct.Given as goal
 
-abbrev pub invariant-loop-place : goal.invariant-loop-place
-invariant-loop-place l = distinct (drop l.place (blocks_of l.count l.bytes)) ≡ distinct (blocks_of l.count l.bytes)
+abbrev pub invariant-loop-block : goal.invariant-loop-block
+invariant-loop-block l = distinct l.rest ≡ distinct l.blocks
+
+abbrev pub decreases-loop-block : goal.decreases-loop-block
+decreases-loop-block l = length l.rest

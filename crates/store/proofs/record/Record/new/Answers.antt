@@ -1,18 +1,12 @@
-use Rattle.std.proofs.Common.{ℕ, ◌≤◌, List, length, replicate, ap, ◌∙◌, arith}
-use Rattle.std.proofs.lemmas.List.{drop-replicate}
-use Rattle.store.proofs.Copying.{copied, copied_front, copied_later}
+use Rattle.std.proofs.Common.{◌≡◌, ℕ, ◌+◌, ◌-◌, List, ◌++◌, length, drop, replicate, refl, zero-add, ap, ◌∙◌}
+use Rattle.std.proofs.lemmas.List.{drop_at, drop-replicate}
+use Rattle.std.proofs.lemmas.Bool.{cond-true}
 use Rattle.store.proofs.record.Record.new.Goals as goal
 
-pub returns : goal.returns
-returns c =
-    let a = c.args in
-    let fit : length a.body.now ≤ 480 = omega arith in
+pub returns-clause-zeros : goal.returns-clause-zeros
+returns-clause-zeros c =
+    let bs = c.args.report.body.now in
+    let n = length bs in
     let zeros : List ℕ = replicate 480 0 in
-    let e = copied zeros a.body.now c.copy_at.new.out c.copy_at.result fit c.copy_at.ensures.fits c.copy_at.ensures.after in
-    record {
-      report = (
-        c.if-body-gt480.false,
-        ap (λ (b : List ℕ). record { number = a.number; stream = a.stream; function = a.function; body = b }) (copied_front zeros a.body.now c.copy_at.new.out e),
-      );
-      zeros = copied_later zeros a.body.now c.copy_at.new.out e ∙ drop-replicate (length a.body.now) 480 0;
-    }
+    let out : c.copy_at.new.out ≡ bs ++ drop (0 + n) zeros = c.copy_at.ensures.after ∙ cond-true _ _ _ c.if-not-copy_at.false in
+    ap (drop n) out ∙ (drop_at bs (drop (0 + n) zeros) n refl ∙ (drop-replicate (0 + n) 480 0 ∙ ap (λ k. replicate (480 - k) 0) (zero-add n)))

@@ -1,74 +1,26 @@
-use Rattle.std.proofs.Common.{◌≡◌, ◌+◌, ◌*◌, [], ◌∷◌, length, take, drop, vec_items, ap, ◌∙◌, subst, arith}
-use Rattle.std.specs.List.{between}
-use Rattle.std.proofs.lemmas.List.Edits.{length-between}
-use Rattle.store.specs.Answers.{read_answer, read_body}
+use Rattle.std.proofs.Common.{[], ◌∷◌, get_or, sym, ap, ◌∙◌, subst}
+use Rattle.store.specs.Reports.{Report}
+use Rattle.store.specs.Answers.{Reads}
 use Rattle.blocks.specs.Layout.{written, report_in}
-use Rattle.blocks.specs.Blocks.{held_in}
-use Rattle.blocks.proofs.Changes.{Found, found, sound_store}
+use Rattle.blocks.proofs.Changes.{found_by, missing_by}
 use Rattle.blocks.proofs.block_store.calls.BlockStoreStore.read.Goals as goal
 
-pub overflow_mul-from : goal.overflow_mul-from
-overflow_mul-from c =
-    let st = c.args.self.now in
-    let n = st.blocks in
-    let xs = vec_items st.bytes in
-    let k = c.place_of-from.result in
-    let f : Found n xs k =
-    found n xs c.as_slice-bytes.result.now c.in-Some.number k (sound_store st) c.as_slice-bytes.ensures.value c.in-Some.ensures c.place_of-from.ensures in
-    let h = f.room in
-    omega arith
+pub returns-in_err-place : goal.returns-in_err-place
+returns-in_err-place c =
+    let cut = c.blocks-blocks.ensures.cut in
+    absurd (missing_by c.args.self.now _ _ cut cut c.in_ok-number.number (sym c.in_ok-number.was ∙ c.lowest_number.ensures) (sym c.in_err-place.was ∙ c.place_of.ensures))
 
-pub overflow_add-from : goal.overflow_add-from
-overflow_add-from c =
-    let st = c.args.self.now in
-    let n = st.blocks in
-    let xs = vec_items st.bytes in
-    let k = c.place_of-from.result in
-    let f : Found n xs k =
-    found n xs c.as_slice-bytes.result.now c.in-Some.number k (sound_store st) c.as_slice-bytes.ensures.value c.in-Some.ensures c.place_of-from.ensures in
-    let h = f.room in
-    omega arith
-
-pub slice_bounds-copy_out-end : goal.slice_bounds-copy_out-end
-slice_bounds-copy_out-end c =
-    let st = c.args.self.now in
-    let n = st.blocks in
-    let xs = vec_items st.bytes in
-    let k = c.place_of-from.result in
-    let f : Found n xs k =
-    found n xs c.as_slice-bytes.result.now c.in-Some.number k (sound_store st) c.as_slice-bytes.ensures.value c.in-Some.ensures c.place_of-from.ensures in
-    let h = f.room in
-    omega (arith, ap length c.as_slice-bytes.ensures.value)
-
-pub copy_out-requires : goal.copy_out-requires
-copy_out-requires c =
-    let st = c.args.self.now in
-    let n = st.blocks in
-    let xs = vec_items st.bytes in
-    let k = c.place_of-from.result in
-    let f : Found n xs k =
-    found n xs c.as_slice-bytes.result.now c.in-Some.number k (sound_store st) c.as_slice-bytes.ensures.value c.in-Some.ensures c.place_of-from.ensures in
-    let h = f.room in
-    let part = ap (between (k * 512) (k * 512 + 512)) c.as_slice-bytes.ensures.value in
-    let long = length-between xs (k * 512) (k * 512 + 512) h in
-    record { room = ap length part ∙ omega arith; used = ap written part ∙ f.used }
+pub report_in-requires : goal.report_in-requires
+report_in-requires c =
+    let cut = c.blocks-blocks.ensures.cut in
+    let k = c.in_ok-place.place in
+    let f = found_by c.args.self.now _ _ cut cut c.in_ok-number.number k (sym c.in_ok-number.was ∙ c.lowest_number.ensures) (sym c.in_ok-place.was ∙ c.place_of.ensures) in
+    ap (λ bs. written (get_or bs k [])) cut ∙ f.used
 
 pub returns : goal.returns
 returns c =
-    let st = c.args.self.now in
-    let n = st.blocks in
-    let xs = vec_items st.bytes in
-    let k = c.place_of-from.result in
-    let f : Found n xs k =
-    found n xs c.as_slice-bytes.result.now c.in-Some.number k (sound_store st) c.as_slice-bytes.ensures.value c.in-Some.ensures c.place_of-from.ensures in
-    let seen = c.as_slice-bytes.result.now in
-    let part : between (k * 512) (k * 512 + 512) seen ≡ between (k * 512) (k * 512 + 512) xs = ap (between (k * 512) (k * 512 + 512)) c.as_slice-bytes.ensures.value in
-    let buffer = c.args.buffer.now in
-    let out = c.copy_out.new.buffer in
-    let copied : read_body (report_in (between (k * 512) (k * 512 + 512) seen) ∷ []) (length buffer) ≡ read_body (held_in n xs) (length buffer) =
-    ap (λ b. read_body (report_in b ∷ []) (length buffer)) part ∙ f.copied (length buffer) in
-    record {
-      answer = c.copy_out.ensures.answer ∙ (ap (λ b. read_answer (report_in b ∷ []) (length buffer)) part ∙ f.told (length buffer));
-      body = subst (λ b. take (length b) out ≡ b) copied c.copy_out.ensures.body;
-      later = subst (λ b. drop (length b) out ≡ drop (length b) buffer) copied c.copy_out.ensures.later;
-    }
+    let cut = c.blocks-blocks.ensures.cut in
+    let k = c.in_ok-place.place in
+    let f = found_by c.args.self.now _ _ cut cut c.in_ok-number.number k (sym c.in_ok-number.was ∙ c.lowest_number.ensures) (sym c.in_ok-place.was ∙ c.place_of.ensures) in
+    let told = c.report_in.ensures.value ∙ ap (λ bs. report_in (get_or bs k [])) cut in
+    f.read _ _ _ (subst (λ (r : Report). Reads (r ∷ []) c.copy_out.result c.args.buffer.now c.copy_out.new.buffer) told (c.copy_out.ensures.short c.report_in.ensures.short))
