@@ -1,7 +1,7 @@
 // The bodies.
 use frames::header::Header;
 
-#[derive(Clone, Copy)]
+#[derive(Clone, Copy, PartialEq, Eq, Debug)]
 pub enum Body {
     // no item
     Empty,

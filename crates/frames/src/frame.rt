@@ -14,7 +14,7 @@ pub struct Frame<'a> {
 }
 
 impl Header {
-    // The ten bytes. Of the stream only its seven low bits are sent.
+    // The ten bytes, by name: a From would not say that of the stream only its seven low bits are sent.
     pub fn bytes(self) -> [u8; 10]
         ensures value { result ≡ header_bytes self }
         ensures back { self.stream < 128 → header_of result ≡ self }
@@ -78,14 +78,11 @@ pub fn write_frame(out: &mut [u8], at: usize, header: Header, body: &[u8]) -> Op
     ensures whole { FrameWhole }
     ensures back { WrittenBack out.new at header body.now result }
 {
-    if at > out.len()
-        || out.len() - at < 14
-        || out.len() - at - 14 < body.len()
-        || body.len() > 0xffff_fff5
-    {
+    let room = out.len().checked_sub(at)?.checked_sub(14)?;
+    if body.len() > room {
         return None;
     }
-    let length = (10 + body.len()) as u32;
+    let length = u32::try_from(10 + body.len()).ok()?;
     copy_at(out, at, &length.to_be_bytes());
     copy_at(out, at + 4, &header.bytes());
     copy_at(out, at + 14, body);

@@ -132,8 +132,8 @@ item_back xs at f n content s h =
     let b : at + 1 + length_size n ≡ at + length bs - length content = omega arith in
     reads_back (placed xs at bs) at f n content s (holds_placed xs at bs h) ∙ ap (λ x. Ok (reading f x n content (at + length bs))) b
 
-pub list_back : (xs : List ℕ) (at n : ℕ) → ListBack (list_written xs at n) at n (list_end xs at n)
-list_back xs at n =
+back_of_list : (xs : List ℕ) (at n : ℕ) → ListBack (list_written xs at n) at n (list_end xs at n)
+back_of_list xs at n =
     elim (cases_Bool (fits_at xs at n (list_bytes n))) [
       | inl e ↦
           let p = and_parts (leb n longest) (leb (at + length (list_bytes n)) (length xs)) e in
@@ -150,8 +150,8 @@ none_of : (o : Option Fault) → is_some o ≡ false → o ≡ None
 none_of None h = refl
 none_of (Some x) h = absurd (true≢false h)
 
-pub value_back : (xs : List ℕ) (at : ℕ) (f : Format) (content : List ℕ) → ItemBack (item_written xs at f content) at f content (item_end xs at f content)
-value_back xs at f content =
+back_of_value : (xs : List ℕ) (at : ℕ) (f : Format) (content : List ℕ) → ItemBack (item_written xs at f content) at f content (item_end xs at f content)
+back_of_value xs at f content =
     let bs = value_bytes f content in
     elim (cases_Bool (item_fits xs at f content)) [
       | inl e ↦
@@ -170,3 +170,13 @@ value_back xs at f content =
           (item_back xs at f (length content) content s (leb-true (at + length bs) (length xs) q.1))
       | inr e ↦ subst (λ b. ItemBack (cond b (placed xs at bs) xs) at f content (place_after b at bs)) (sym e) tt
     ]
+
+-- what a writer answers and leaves
+
+pub list_back : (xs : List ℕ) (at n : ℕ) (answer : Option ℕ) (ys : List ℕ) → answer ≡ list_end xs at n → ys ≡ list_written xs at n → ListBack ys at n answer
+list_back xs at n answer ys place after = subst (λ ys. ListBack ys at n answer) (sym after) (subst (ListBack (list_written xs at n) at n) (sym place) (back_of_list xs at n))
+
+pub value_back : (xs : List ℕ) (at : ℕ) (f : Format) (content : List ℕ) (answer : Option ℕ) (ys : List ℕ) → answer ≡ item_end xs at f content → ys ≡ item_written xs at f content
+    → ItemBack ys at f content answer
+value_back xs at f content answer ys place after =
+    subst (λ ys. ItemBack ys at f content answer) (sym after) (subst (ItemBack (item_written xs at f content) at f content) (sym place) (back_of_value xs at f content))

@@ -1,20 +1,20 @@
 -- What is read with the fewest length bytes is what would be written.
 use Rattle.std.proofs.Common.{◌≡◌, ℕ, ◌+◌, ◌-◌, ◌*◌, ◌/◌, ◌%◌, ◌<◌, ◌≤◌, Bool, true, false, cond, eqb, ltb, leb, List, [], ◌∷◌, ◌++◌, length, get_or, take, drop, Some, None, Ok, Err, Option, Result, sym, refl, ap, ◌∙◌, subst, inl, inr, add-zero, arith, take-add}
-use Rattle.std.specs.List.{between}
+use Rattle.std.specs.List.{between, find}
 use Rattle.std.proofs.lemmas.List.{length-drop, length-take, get_or-drop, drop-drop}
 use Rattle.std.proofs.lemmas.Bool.{cond-true, cond-false, cases_Bool, eqb-true, leb-false, ltb-false}
 use Rattle.secs.specs.declared.format.Format.{Format}
 use Rattle.secs.specs.declared.item.Item.{Item}
 use Rattle.secs.specs.declared.item.Fault.{Fault}
 use Rattle.secs.specs.declared.item.Fault.TheVariants.{NoLength, PastEnd}
-use Rattle.secs.specs.Formats.{code_of, with_code, every_format, format_of}
+use Rattle.secs.specs.Formats.{code_of, every_format, format_of}
 use Rattle.secs.specs.Elements.{is_list, content_fault}
 use Rattle.items.specs.Encode.{length_size, head_bytes, item_bytes}
 use Rattle.items.specs.Decode.{Reading, reading, length_at, judged, content_at, format_at, item_at, seen}
 use Rattle.items.specs.Laws.{Holds, ShortestBack}
 use Rattle.items.proofs.Encoding.{Sized, one, two, three, sized, length_item}
 
-found_in : (code : ℕ) (fs : List Format) (f : Format) → with_code code fs ≡ Some f → code_of f ≡ code
+found_in : (code : ℕ) (fs : List Format) (f : Format) → find (λ g. eqb (code_of g) code) fs ≡ Some f → code_of f ≡ code
 found_in code [] f h = absurd (let z : ◌≡◌ {A = ℕ} 0 1 = cc in let x : ⊥ = omega arith in x)
 found_in code (g ∷ fs) f h =
     elim (cases_Bool (eqb (code_of g) code)) [

@@ -1,21 +1,22 @@
 // The item reader.
-ghost use Rattle.std.specs.Prelude.{◌≡◌, ℕ, ◌+◌, ◌≤◌, length, IfOk};
+ghost use Rattle.std.specs.Prelude.{◌≡◌, ℕ, ◌≤◌, length, IfOk, if◌then◌else◌, nat_le};
 ghost use Rattle.items.specs.Decode.{length_at, content_at, item_at, seen, Within};
 ghost use Rattle.items.specs.Laws.{ShortestBack};
 
-use secs::elements::content_fault;
+use secs::elements::check_content;
 use secs::format::Format;
 use secs::item::{Fault, Item};
 
-// The number that `count` bytes from `at` on hold, the highest byte first.
-fn read_length(frame: &[u8], at: usize, count: u8) -> usize
-    requires { (at + count ≤ length frame.now) × ((1 ≤ count) × (count ≤ 3)) }
-    ensures { result ≡ length_at count frame.now at }
+// The length that the first `count` bytes are, where there are so many.
+fn read_length(bytes: &[u8], count: u8) -> Option<usize>
+    requires { (1 ≤ count) × (count ≤ 3) }
+    ensures { result ≡ (if nat_le count (length bytes.now) then Some (length_at count bytes.now 0) else None) }
 {
-    match count {
-        1 => frame[at] as usize,
-        2 => frame[at] as usize * 256 + frame[at + 1] as usize,
-        _ => frame[at] as usize * 65_536 + frame[at + 1] as usize * 256 + frame[at + 2] as usize,
+    match (count, bytes) {
+        (1, [a, ..]) => Some(usize::from(*a)),
+        (2, [a, b, ..]) => Some(usize::from(u16::from_be_bytes([*a, *b]))),
+        (3, [a, b, c, ..]) => Some(u32::from_be_bytes([0, *a, *b, *c]) as usize),
+        _ => None,
     }
 }
 
@@ -30,7 +31,7 @@ fn read_content<'a>(
     ensures item { seen result ≡ content_at frame.now format begin len }
     ensures within { IfOk result (λ i. Within i frame.now) }
 {
-    if let Format::List = format {
+    if format == Format::List {
         return Ok(Item {
             format,
             begin,
@@ -43,16 +44,14 @@ fn read_content<'a>(
         return Err(Fault::PastEnd);
     }
     let content = &frame[begin..begin + len];
-    match content_fault(format, content) {
-        None => Ok(Item {
-            format,
-            begin,
-            length: len,
-            content,
-            next: begin + len,
-        }),
-        Some(fault) => Err(fault),
-    }
+    check_content(format, content)?;
+    Ok(Item {
+        format,
+        begin,
+        length: len,
+        content,
+        next: begin + len,
+    })
 }
 
 // The item that stands at `at`. Its content is a part of the frame.
@@ -61,19 +60,14 @@ pub fn read_item<'a>(frame: &'a [u8], at: usize) -> Result<Item<'a>, Fault>
     ensures within { IfOk result (λ i. Within i frame.now) }
     ensures shortest { ShortestBack frame.now at result }
 {
-    if at >= frame.len() {
+    let Some([head, rest @ ..]) = frame.get(at..) else {
         return Err(Fault::PastEnd);
-    }
-    let count = frame[at] % 4;
+    };
+    let count = *head % 4;
     if count == 0 {
         return Err(Fault::NoLength);
     }
-    let Some(format) = Format::from_code(frame[at] / 4) else {
-        return Err(Fault::UnknownFormat);
-    };
-    if frame.len() - at <= count as usize {
-        return Err(Fault::PastEnd);
-    }
-    let len = read_length(frame, at + 1, count);
-    read_content(frame, format, at + 1 + count as usize, len)
+    let format = Format::try_from(*head / 4)?;
+    let len = read_length(rest, count).ok_or(Fault::PastEnd)?;
+    read_content(frame, format, at + 1 + usize::from(count), len)
 }

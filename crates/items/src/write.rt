@@ -1,48 +1,32 @@
 // The item writer.
-ghost use Rattle.std.specs.Prelude.{◌≡◌, ℕ, ◌+◌, ◌≤◌, ◌&&◌, [], ◌++◌, length, is_some, if◌then◌else◌, nat_le};
+ghost use Rattle.std.specs.Prelude.{◌≡◌, ℕ, ◌+◌, ◌++◌, length, if◌then◌else◌, nat_le};
 ghost use Rattle.octets.specs.Places.{placed};
-ghost use Rattle.items.specs.Encode.{longest, length_size, head_bytes, item_bytes, fits_at, place_after, list_end, list_written, item_end, item_written};
+ghost use Rattle.items.specs.Encode.{item_bytes, fits_at, place_after, list_end, list_written, item_end, item_written};
 ghost use Rattle.items.specs.Laws.{ListBack, ItemBack};
 
 use octets::copy_at;
-use secs::elements::content_fault;
+use secs::elements::check_content;
 use secs::format::Format;
 
 // The greatest length of an item: three length bytes.
 pub const LONGEST: usize = 16_777_215;
 
-// How many length bytes a length takes at least.
-fn length_size(len: usize) -> usize
-    ensures { result ≡ length_size len }
-{
-    if len < 256 {
-        1
-    } else if len < 65_536 {
-        2
-    } else {
-        3
-    }
-}
+// Buffer and place stay two parameters in each writer: the next one takes both on. The length bytes are quotients and
+// remainders, as the definition has them.
 
-// Writes the format byte and the length, if there is room.
-fn write_head(out: &mut [u8], at: usize, format: Format, len: usize) -> bool
-    requires { len ≤ longest }
-    ensures fits { result ≡ nat_le (at + length (head_bytes format len)) (length out.old) }
-    ensures after { out.new ≡ (if result then placed out.old at (head_bytes format len) else out.old) }
+// Writes the head and the content of an item at `at` and answers the place after them. Where there is no room, nothing
+// changes.
+fn write_both(out: &mut [u8], at: usize, head: &[u8], content: &[u8]) -> Option<usize>
+    ensures place { result ≡ place_after (nat_le (at + length (head.now ++ content.now)) (length out.old)) at (head.now ++ content.now) }
+    ensures after { out.new ≡ (if nat_le (at + length (head.now ++ content.now)) (length out.old) then placed out.old at (head.now ++ content.now) else out.old) }
 {
-    let code = format.code() * 4;
-    let low = (len % 256) as u8;
-    if len < 256 {
-        copy_at(out, at, &[code + 1, low])
-    } else if len < 65_536 {
-        copy_at(out, at, &[code + 2, (len / 256) as u8, low])
-    } else {
-        copy_at(
-            out,
-            at,
-            &[code + 3, (len / 65_536) as u8, (len / 256 % 256) as u8, low],
-        )
+    let room = out.len().checked_sub(at)?.checked_sub(head.len())?;
+    if content.len() > room {
+        return None;
     }
+    copy_at(out, at, head);
+    copy_at(out, at + head.len(), content);
+    Some(at + head.len() + content.len())
 }
 
 // Writes an item at `at` and answers the place after it. Where it is too long or there is no room, nothing changes.
@@ -56,17 +40,19 @@ fn write_parts(
     ensures place { result ≡ place_after (fits_at out.old at len (item_bytes format len content.now)) at (item_bytes format len content.now) }
     ensures after { out.new ≡ (if fits_at out.old at len (item_bytes format len content.now) then placed out.old at (item_bytes format len content.now) else out.old) }
 {
-    if len > LONGEST || at > out.len() {
-        return None;
+    let code = format.code() * 4;
+    let low = (len % 256) as u8;
+    match len {
+        0..256 => write_both(out, at, &[code + 1, low], content),
+        256..65_536 => write_both(out, at, &[code + 2, (len / 256) as u8, low], content),
+        65_536..=LONGEST => write_both(
+            out,
+            at,
+            &[code + 3, (len / 65_536) as u8, (len / 256 % 256) as u8, low],
+            content,
+        ),
+        _ => None,
     }
-    let head = 1 + length_size(len);
-    let room = out.len() - at;
-    if room < head || room - head < content.len() {
-        return None;
-    }
-    write_head(out, at, format, len);
-    copy_at(out, at + head, content);
-    Some(at + head + content.len())
 }
 
 // Writes the beginning of a list of `count` items at `at`, and answers the place of its first item.
@@ -85,11 +71,9 @@ pub fn write_item(out: &mut [u8], at: usize, format: Format, content: &[u8]) -> 
     ensures after { out.new ≡ item_written out.old at format content.now }
     ensures back { ItemBack out.new at format content.now result }
 {
-    if let Format::List = format {
+    if format == Format::List {
         return None;
     }
-    if content_fault(format, content).is_some() {
-        return None;
-    }
+    check_content(format, content).ok()?;
     write_parts(out, at, format, content.len(), content)
 }

@@ -45,17 +45,21 @@ next_of (Err e) = Err e
 abbrev pub list_at : List ℕ → ℕ → ℕ → Result ℕ Mismatch
 list_at frame at n = next_of (expected_at frame at format.List n)
 
+-- the one number of an item of a format, whose elements have n bytes
+abbrev pub value_at : {A : Type 0} → Format → ℕ → (List ℕ → A) → List ℕ → ℕ → Result (A × ℕ) Mismatch
+value_at f n make frame at = valued make (expected_at frame at f n)
+
 -- the one byte of a B, the one number of a U1
 abbrev pub byte_at : Format → List ℕ → ℕ → Result (ℕ × ℕ) Mismatch
-byte_at f frame at = valued (λ bs. slice_index bs 0) (expected_at frame at f 1)
+byte_at f = value_at f 1 (λ bs. slice_index bs 0)
 
 -- the one number of a U4, or the bits of the one number of an F4
 abbrev pub word_at : Format → List ℕ → ℕ → Result (ℕ × ℕ) Mismatch
-word_at f frame at = valued (λ bs. num4 bs 0) (expected_at frame at f 4)
+word_at f = value_at f 4 (λ bs. num4 bs 0)
 
 -- the one number of an I4
 abbrev pub signed_at : List ℕ → ℕ → Result (ℤ × ℕ) Mismatch
-signed_at frame at = valued (λ bs. to_z w32 (num4 bs 0)) (expected_at frame at format.I4 4)
+signed_at = value_at format.I4 4 (λ bs. to_z w32 (num4 bs 0))
 
 -- the text of an A
 abbrev pub text_at : List ℕ → ℕ → Result (List ℕ × ℕ) Mismatch

@@ -1,4 +1,7 @@
 // Why an item is not the one that was expected.
+ghost use Rattle.std.specs.Prelude.{◌≡◌};
+ghost use Rattle.readers.specs.declared.mismatch.Mismatch.TheVariants as mismatch;
+
 use secs::item::Fault;
 
 #[derive(Clone, Copy, PartialEq, Debug)]
@@ -7,4 +10,12 @@ pub enum Mismatch {
     Faulty(Fault),
     // it is well formed, but of another format or length
     Unexpected,
+}
+
+impl From<Fault> for Mismatch {
+    ghost from_gives = { λ fault m. m ≡ mismatch.Faulty fault };
+
+    fn from(fault: Fault) -> Mismatch {
+        Mismatch::Faulty(fault)
+    }
 }

@@ -1,5 +1,5 @@
 -- The faults of a frame of the host.
-use Rattle.std.specs.Prelude.{ℕ}
+use Rattle.std.specs.Prelude.{ℕ, List, ◌++◌, codes, decimal}
 use Rattle.requests.specs.declared.request.FrameFault.{FrameFault}
 use Rattle.requests.specs.declared.request.FrameFault.TheVariants.{Session, Stream, Function, BadItem, Unlisted}
 
@@ -26,3 +26,11 @@ fault_function Stream = 3
 fault_function Function = 5
 fault_function (BadItem place) = 7
 fault_function (Unlisted place) = 7
+
+-- what is said of it
+abbrev pub fault_text : FrameFault → List ℕ
+fault_text Session = codes "the session is another's"
+fault_text Stream = codes "the stream is unknown"
+fault_text Function = codes "the function is unknown"
+fault_text (BadItem place) = codes "the item at " ++ decimal place ++ codes " is at fault"
+fault_text (Unlisted place) = codes "the item at " ++ decimal place ++ codes " is not the one listed"

@@ -1,5 +1,8 @@
-ghost use Rattle.std.specs.Prelude.{◌≡◌};
-ghost use Rattle.requests.specs.Faults.{fault_code, fault_function, fault_place};
+ghost use Rattle.std.specs.Prelude.{◌≡◌, Some};
+ghost use Rattle.requests.specs.Faults.{fault_code, fault_function, fault_place, fault_text};
+
+use std::error::Error;
+use std::fmt;
 
 // A primary of the host that is understood.
 #[derive(Clone, Copy, PartialEq, Eq, Debug)]
@@ -35,6 +38,7 @@ pub enum FrameFault {
     Unlisted { place: usize },
 }
 
+// By name: three numbers belong to one fault.
 impl FrameFault {
     // The code that a call answers.
     pub fn code(self) -> u8
@@ -57,8 +61,7 @@ impl FrameFault {
             FrameFault::Session => 0,
             FrameFault::Stream => 2,
             FrameFault::Function => 3,
-            FrameFault::BadItem { place } => place,
-            FrameFault::Unlisted { place } => place,
+            FrameFault::BadItem { place } | FrameFault::Unlisted { place } => place,
         }
     }
 
@@ -74,3 +77,21 @@ impl FrameFault {
         }
     }
 }
+
+impl fmt::Display for FrameFault {
+    ghost output = { λ fault. Some (fault_text fault) };
+
+    fn fmt<W: fmt::Write>(&self, f: &mut fmt::Formatter<W>) -> fmt::Result {
+        match self {
+            FrameFault::Session => write!(f, "the session is another's"),
+            FrameFault::Stream => write!(f, "the stream is unknown"),
+            FrameFault::Function => write!(f, "the function is unknown"),
+            FrameFault::BadItem { place } => write!(f, "the item at {place} is at fault"),
+            FrameFault::Unlisted { place } => {
+                write!(f, "the item at {place} is not the one listed")
+            }
+        }
+    }
+}
+
+impl Error for FrameFault {}

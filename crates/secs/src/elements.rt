@@ -1,6 +1,6 @@
 // What a content of a format has to be, for the reader and the writer.
 ghost use Rattle.std.specs.Prelude.{◌≡◌};
-ghost use Rattle.secs.specs.Elements.{is_nan, all_numbers, content_fault};
+ghost use Rattle.secs.specs.Elements.{is_nan, all_numbers, checked};
 
 use crate::format::Format;
 use crate::item::Fault;
@@ -16,31 +16,19 @@ pub fn is_nan(bits: u32) -> bool
 fn all_numbers(content: &[u8]) -> bool
     ensures { result ≡ all_numbers content.now }
 {
-    let mut rest = content;
-    while let [a, b, c, d, more @ ..] = rest {
-        if is_nan(u32::from_be_bytes([*a, *b, *c, *d])) {
-            return false;
-        }
-        rest = more;
-    }
-    true
+    let (words, _) = content.as_chunks::<4>();
+    words.iter().all(|word| !is_nan(u32::from_be_bytes(*word)))
 }
 
-// The fault of a content of a format, if it has one.
-pub fn content_fault(format: Format, content: &[u8]) -> Option<Fault>
-    ensures { result ≡ content_fault format content.now }
+// Whether a content can be that of a format, or the fault it has.
+pub fn check_content(format: Format, content: &[u8]) -> Result<(), Fault>
+    ensures { result ≡ checked format content.now }
 {
     if content.len() % format.width() as usize != 0 {
-        return Some(Fault::Uneven);
+        return Err(Fault::Uneven);
     }
-    match format {
-        Format::F4 => {
-            if all_numbers(content) {
-                None
-            } else {
-                Some(Fault::NotNumber)
-            }
-        }
-        _ => None,
+    if format == Format::F4 && !all_numbers(content) {
+        return Err(Fault::NotNumber);
     }
+    Ok(())
 }

@@ -1,7 +1,9 @@
 // The formats of items, each with its code and the bytes of one element. The length of a list counts items.
-ghost use Rattle.std.specs.Prelude.{◌≡◌, ◌<◌};
-ghost use Rattle.std.specs.List.{slice_get};
-ghost use Rattle.secs.specs.Formats.{code_of, width_of, every_format, format_of, table, FoundByCode, CodeFound};
+ghost use Rattle.std.specs.Prelude.{◌≡◌, ◌<◌, Some};
+ghost use Rattle.secs.specs.Formats.{code_of, width_of, name_of, format_of, decoded, table, FoundByCode, CodeFound};
+
+use crate::item::Fault;
+use std::fmt;
 
 #[derive(Clone, Copy, PartialEq, Eq, Debug)]
 pub enum Format {
@@ -27,12 +29,33 @@ pub fn formats() -> [(u8, u8); 7]
 }
 
 impl Format {
-    // The format code, six bits.
+    // The formats in the order of the table.
+    const ALL: [Format; 7] = [
+        Format::List,
+        Format::Binary,
+        Format::Ascii,
+        Format::U1,
+        Format::I4,
+        Format::F4,
+        Format::U4,
+    ];
+
+    // The format code, six bits. By name, as `width` is: a From would not say which of the two it gives.
     pub fn code(self) -> u8
         ensures value { result ≡ code_of self }
         ensures small { result < 64 }
     {
         FORMATS[self as usize].0
+    }
+
+    // The format of a code, by a search of the table in its order; `ALL` names the rows, since the table holds numbers alone.
+    fn from_code(code: u8) -> Option<Format>
+        ensures { result ≡ format_of code }
+    {
+        Format::ALL
+            .iter()
+            .copied()
+            .find(|format| format.code() == code)
     }
 
     // How many bytes an element takes.
@@ -42,32 +65,32 @@ impl Format {
     {
         FORMATS[self as usize].1
     }
+}
 
-    // The format whose line is at `place` of the table.
-    fn at(place: usize) -> Option<Format>
-        ensures { result ≡ slice_get every_format place }
-    {
-        match place {
-            0 => Some(Format::List),
-            1 => Some(Format::Binary),
-            2 => Some(Format::Ascii),
-            3 => Some(Format::U1),
-            4 => Some(Format::I4),
-            5 => Some(Format::F4),
-            6 => Some(Format::U4),
-            _ => None,
-        }
+// The format of a code.
+impl TryFrom<u8> for Format {
+    type Error = Fault;
+
+    ghost try_from_gives = { λ code r. r ≡ decoded code };
+
+    fn try_from(code: u8) -> Result<Format, Fault> {
+        Format::from_code(code).ok_or(Fault::UnknownFormat)
     }
+}
 
-    // The format of a code.
-    pub fn from_code(code: u8) -> Option<Format>
-        ensures { result ≡ format_of code }
-    {
-        for (place, (c, _)) in FORMATS.iter().enumerate() {
-            if *c == code {
-                return Format::at(place);
-            }
-        }
-        None
+// The name that SML gives it.
+impl fmt::Display for Format {
+    ghost output = { λ format. Some (name_of format) };
+
+    fn fmt<W: fmt::Write>(&self, f: &mut fmt::Formatter<W>) -> fmt::Result {
+        f.write_str(match self {
+            Format::List => "L",
+            Format::Binary => "B",
+            Format::Ascii => "A",
+            Format::U1 => "U1",
+            Format::I4 => "I4",
+            Format::F4 => "F4",
+            Format::U4 => "U4",
+        })
     }
 }

@@ -4,3 +4,4 @@
 pub mod elements;
 pub mod format;
 pub mod item;
+pub mod scalar;

@@ -27,14 +27,10 @@ fn header_bytes(rt: HostRuntime) {
 #[test]
 fn frame_apart(rt: HostRuntime) -> Result<(), Fail> {
     assert!(rt; split_frame(&[1, 2, 0x86, 11, 0, 0, 0, 0, 0]).is_none());
-    match split_frame(&[1, 2, 0x86, 11, 0, 0, 0, 0, 0, 1, 0x21, 1, 0]) {
-        Some(frame) => {
-            assert_eq!(rt; frame.header, header(true, 6, 11, 1));
-            assert!(rt; frame.body == [0x21, 1, 0].as_slice());
-            Ok(())
-        }
-        None => Err(Fail::new("no frame")),
-    }
+    let frame = split_frame(&[1, 2, 0x86, 11, 0, 0, 0, 0, 0, 1, 0x21, 1, 0]).ok_or("no frame")?;
+    assert_eq!(rt; frame.header, header(true, 6, 11, 1));
+    assert!(rt; frame.body == [0x21, 1, 0].as_slice());
+    Ok(())
 }
 
 #[test]
@@ -74,14 +70,12 @@ fn event_report(rt: HostRuntime) {
 fn body_is(rt: &impl Abort, body: Body, bytes: &[u8]) -> Result<(), Fail> {
     let mut out = [9u8; 24];
     assert_eq!(rt; body.length(), bytes.len());
-    match write_body(body, &mut out) {
-        Some(length) if length <= 23 => {
-            assert!(rt; &out[..length] == bytes);
-            assert_eq!(rt; out[length], 9);
-            Ok(())
-        }
-        _ => Err(Fail::new("no body")),
-    }
+    assert!(rt; body.bytes().as_slice() == bytes);
+    let length = write_body(body, &mut out).ok_or("no body")?;
+    assert!(rt; length <= 23);
+    assert!(rt; &out[..length] == bytes);
+    assert_eq!(rt; out[length], 9);
+    Ok(())
 }
 
 #[test]

@@ -1,9 +1,7 @@
 -- The text of several items, by what the first of them is.
-use Rattle.std.proofs.Common.{◌≡◌, ℕ, suc, true, false, List, [], ◌++◌, Some, None, Ok, Err, codes, Option, Result, sym, refl, ap, ◌∙◌}
+use Rattle.std.proofs.Common.{◌≡◌, ℕ, suc, true, false, List, [], ◌++◌, Some, None, Ok, Err, codes, Option, Result, sym, ap, ◌∙◌}
 use Rattle.std.proofs.lemmas.Bool.{cond-true, cond-false}
 use Rattle.secs.specs.Elements.{is_list}
-use Rattle.secs.specs.declared.format.Format.{Format}
-use Rattle.secs.specs.declared.format.Format.TheVariants as format
 use Rattle.secs.specs.declared.item.Fault.{Fault}
 use Rattle.items.specs.Decode.{Reading, item_at}
 use Rattle.sml.specs.Texts.{value_text, open_text, fault_text}
@@ -48,13 +46,3 @@ module _ (depth d : ℕ) (frame : List ℕ) (m n a : ℕ) (deep : depth ≡ suc 
       (cond-true (is_list r.format) (around (open_text r.size) (items_shown d frame r.size r.next).text (items_shown d frame r.size r.next).next) _ e)
       ∙ (ap (λ x. follow (around (open_text r.size) x (items_shown d frame r.size r.next).next).text (around (open_text r.size) x (items_shown d frame r.size r.next).next).next (items_shown depth frame n)) p
       ∙ ap (λ x. follow (around (open_text r.size) t x).text (around (open_text r.size) t x).next (items_shown depth frame n)) q))
-
--- a format that is not that of lists
-pub not_list : (f : Format) → (f ≡ format.List → ⊥) → is_list f ≡ false
-not_list format.List h = absurd (h refl)
-not_list format.Binary h = refl
-not_list format.Ascii h = refl
-not_list format.U1 h = refl
-not_list format.I4 h = refl
-not_list format.F4 h = refl
-not_list format.U4 h = refl

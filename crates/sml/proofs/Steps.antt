@@ -13,7 +13,3 @@ piece_none t rest whole e inv = sym (append-nil t) ∙ (ap (λ x. t ++ x) (sym e
 -- three pieces, one after the other
 pub three_pieces : (t x y z a b c : List ℕ) → x ≡ t ++ a → y ≡ x ++ b → z ≡ y ++ c → z ≡ t ++ (a ++ (b ++ c))
 three_pieces t x y z a b c p q r = r ∙ (ap (λ w. w ++ c) (q ∙ ap (λ w. w ++ b) p) ∙ simp append_assoc)
-
--- four pieces, one after the other
-pub four_pieces : (t x y z w a b c d : List ℕ) → x ≡ t ++ a → y ≡ x ++ b → z ≡ y ++ c → w ≡ z ++ d → w ≡ t ++ (a ++ (b ++ (c ++ d)))
-four_pieces t x y z w a b c d p q r s = s ∙ (ap (λ v. v ++ d) (three_pieces t x y z a b c p q r) ∙ simp append_assoc)

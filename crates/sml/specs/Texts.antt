@@ -1,7 +1,10 @@
 -- The text of a frame.
-use Rattle.std.specs.Prelude.{ℕ, ◌+◌, ◌*◌, Bool, true, false, cond, ◌&&◌, List, [], ◌∷◌, ◌++◌, map, codes, decimal, nat_le, nat_lt}
+use Rattle.std.specs.Prelude.{ℕ, Bool, true, false, cond, ◌&&◌, List, [], ◌∷◌, ◌++◌, map, codes, decimal, nat_le, nat_lt}
 use Rattle.std.proofs.Common.{to_z}
 use Rattle.std.specs.Int.{w32}
+use Rattle.std.specs.List.{flat_map}
+use Rattle.secs.specs.Formats.{name_of}
+use Rattle.secs.specs.Elements.{words}
 use Rattle.secs.specs.declared.format.Format.{Format}
 use Rattle.secs.specs.declared.format.Format.TheVariants as format
 use Rattle.std.specs.Fmt.{signed_decimal}
@@ -13,8 +16,7 @@ headline stream function false = codes "S" ++ (decimal stream ++ (codes "F" ++ d
 
 -- each byte as a number after a space
 abbrev pub bytes_text : List ℕ → List ℕ
-bytes_text [] = []
-bytes_text (b ∷ bs) = (32 ∷ decimal b) ++ bytes_text bs
+bytes_text bs = flat_map (λ b. 32 ∷ decimal b) bs
 
 -- four bytes as a number after a space; of an F4 its bits are shown
 abbrev pub word_text : Format → ℕ → List ℕ
@@ -28,11 +30,7 @@ word_text format.U4 n = 32 ∷ decimal n
 
 -- each four bytes so
 abbrev pub words_text : Format → List ℕ → List ℕ
-words_text f [] = []
-words_text f (a ∷ []) = []
-words_text f (a ∷ (b ∷ [])) = []
-words_text f (a ∷ (b ∷ (c ∷ []))) = []
-words_text f (a ∷ (b ∷ (c ∷ (d ∷ bs)))) = word_text f (a * 16777216 + b * 65536 + c * 256 + d) ++ words_text f bs
+words_text f bs = flat_map (word_text f) (words bs)
 
 -- a byte as a letter: one that no screen shows is a point
 abbrev pub letter_of : ℕ → ℕ
@@ -56,19 +54,9 @@ elements_text format.I4 bs = words_text format.I4 bs
 elements_text format.F4 bs = words_text format.F4 bs
 elements_text format.U4 bs = words_text format.U4 bs
 
--- the name of a format
-abbrev pub name_text : Format → List ℕ
-name_text format.List = codes "L"
-name_text format.Binary = codes "B"
-name_text format.Ascii = codes "A"
-name_text format.U1 = codes "U1"
-name_text format.I4 = codes "I4"
-name_text format.F4 = codes "F4"
-name_text format.U4 = codes "U4"
-
 -- an item that is no list
 unfoldable pub value_text : Format → List ℕ → List ℕ
-value_text f bs = codes " <" ++ (name_text f ++ (elements_text f bs ++ codes ">"))
+value_text f bs = codes " <" ++ (name_of f ++ (elements_text f bs ++ codes ">"))
 
 -- how a list begins
 abbrev pub open_text : ℕ → List ℕ

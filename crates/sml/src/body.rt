@@ -5,12 +5,11 @@ ghost use Rattle.sml.specs.Nested.{items_shown};
 use crate::pieces::{push_fault, push_open, push_value};
 use items::read::read_item;
 use secs::format::Format;
-use std::alloc::{AllocError, Global};
+use std::alloc::AllocError;
 
 // Adds `count` items from `at` on, and answers the place after them; none where an item cannot be read, or lists are
 // nested deeper than `depth`.
 pub(crate) fn push_items(
-    heap: Global,
     text: &mut String,
     frame: &[u8],
     at: usize,
@@ -27,19 +26,18 @@ pub(crate) fn push_items(
     let mut place = at;
     for _turn in 0..count {
         let Ok(item) = read_item(frame, place) else {
-            push_fault(heap, text, place)?;
+            push_fault(text, place)?;
             return Ok(None);
         };
-        if let Format::List = item.format {
-            push_open(heap, text, item.length)?;
-            let Some(next) = push_items(heap, text, frame, item.next, item.length, depth - 1)?
-            else {
+        if item.format == Format::List {
+            push_open(text, item.length)?;
+            let Some(next) = push_items(text, frame, item.next, item.length, depth - 1)? else {
                 return Ok(None);
             };
             text.push_str(">")?;
             place = next;
         } else {
-            push_value(heap, text, item.format, item.content)?;
+            push_value(text, item.format, item.content)?;
             place = item.next;
         }
     }

@@ -3,7 +3,7 @@ ghost use Rattle.std.specs.Prelude.{◌≡◌, IfOk, string_bytes};
 ghost use Rattle.sml.specs.Nested.{frame_text};
 
 use crate::body::push_items;
-use crate::pieces::head_line;
+use crate::pieces::push_head;
 use frames::frame::split_frame;
 use std::alloc::{AllocError, Global};
 
@@ -15,9 +15,10 @@ pub fn render(heap: Global, frame: &[u8]) -> Result<String, AllocError>
     let Some(parts) = split_frame(frame) else {
         return String::from_str(heap, "no frame");
     };
-    let mut text = head_line(heap, parts.header)?;
+    let mut text = String::new(heap);
+    push_head(&mut text, parts.header)?;
     if frame.len() > 10 {
-        push_items(heap, &mut text, frame, 10, 1, 16)?;
+        push_items(&mut text, frame, 10, 1, 16)?;
     }
     Ok(text)
 }

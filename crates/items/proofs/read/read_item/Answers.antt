@@ -1,15 +1,7 @@
-use Rattle.std.proofs.Common.{◌≡◌, rules}
-use Rattle.items.specs.Decode.{item_at, seen}
+use Rattle.std.proofs.Common.{arith}
+use Rattle.std.proofs.lemmas.Grind.{common_steps}
 use Rattle.items.proofs.Rewriting.{shortest_back}
 use Rattle.items.proofs.read.read_item.Goals as goal
 
-pub returns : goal.returns
-returns c =
-    let frame = c.args.frame.now in
-    let r = c.read_content.result in
-    let item : seen r ≡ item_at frame c.args.at = search rules in
-    record {
-      item = item;
-      within = search rules;
-      shortest = shortest_back frame c.args.at r (λ i. (c.type_inv.frame i).fits) item;
-    }
+pub returns-clause-shortest : goal.returns-clause-shortest
+returns-clause-shortest c = shortest_back c.args.frame.now c.args.at c.read_content.result (λ i. (c.type_inv.frame i).fits) (grind (arith, common_steps))

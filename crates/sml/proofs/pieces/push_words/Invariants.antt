@@ -1,9 +1,8 @@
-use Rattle.std.proofs.Common.{◌≡◌, ◌++◌, length, string_bytes}
-use Rattle.sml.specs.Texts.{words_text}
+use Rattle.std.proofs.Common.{◌≡◌, ◌++◌, take, map, string_bytes}
+use Rattle.std.specs.List.{flat_map}
+use Rattle.secs.proofs.Words.{word_of}
+use Rattle.sml.specs.Texts.{word_text}
 use Rattle.sml.proofs.pieces.push_words.Given as goal
 
-abbrev pub invariant-loop-rest : goal.invariant-loop-rest
-invariant-loop-rest l = string_bytes l.text ++ words_text l.format l.rest ≡ string_bytes l.initial.text ++ words_text l.format l.content
-
-abbrev pub decreases-loop-rest : goal.decreases-loop-rest
-decreases-loop-rest l = length l.rest
+abbrev pub invariant-loop-word : goal.invariant-loop-word
+invariant-loop-word l = string_bytes l.text ≡ string_bytes l.initial.text ++ flat_map (word_text l.format) (map word_of (take l.word-index l.words))
