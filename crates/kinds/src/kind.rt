@@ -1,5 +1,5 @@
 // The kinds of value that a variable, a sample and a bound have.
-ghost use Rattle.std.specs.Prelude.{◌≡◌, ℕ, Bool, true, false, Some, Option, int_le};
+ghost use Rattle.std.specs.Prelude.{◌≡◌, ℕ, Bool, true, false, Some, Option, int_le, refl};
 ghost use Rattle.octets.specs.Big.{be4, num4};
 ghost use Rattle.secs.specs.Formats.{code_of, width_of};
 ghost use Rattle.secs.specs.declared.format.Format.{Format};
@@ -12,14 +12,20 @@ ghost use Rattle.std.specs.Float.Order.{le_of_lt, lt_of_not-le, le_trans};
 
 use crate::real::Real;
 use secs::format::{FORMATS, Format};
+use secs::scalar::Element;
 
-// A kind of value: it names the format of its item, by code and element width, and has an order and 32 bits.
+// A kind of value: it names the format of its item, by code and element width, and has an order and 32 bits. The order is this
+// one test; PartialOrd would be no plainer: a zone asks for no partial_cmp and no eq, nor for the laws that come with them.
 pub trait ValueKind: Sized {
     const CODE: u8;
 
     const WIDTH: u8;
 
     ghost format: { Format };
+
+    ghost CODE: { ℕ };
+
+    ghost WIDTH: { ℕ };
 
     ghost at_most: { Self → Self → Bool };
 
@@ -28,10 +34,16 @@ pub trait ValueKind: Sized {
     ghost of_bits: { ℕ → Option Self };
 
     fn format_code() -> u8
-        ensures { result ≡ code_of format };
+        ensures { result ≡ code_of format }
+    {
+        Self::CODE
+    }
 
     fn element_width() -> u8
-        ensures { result ≡ width_of format };
+        ensures { result ≡ width_of format }
+    {
+        Self::WIDTH
+    }
 
     fn at_most(&self, other: &Self) -> bool
         ensures { result ≡ at_most self.now other.now };
@@ -45,6 +57,10 @@ pub trait ValueKind: Sized {
     fn from_bytes(bytes: [u8; 4]) -> Option<Self>
         ensures { result ≡ of_bits (num4 bytes 0) };
 
+    ghost code: { CODE ≡ code_of format };
+
+    ghost width: { WIDTH ≡ width_of format };
+
     ghost total: { (x y : Self) → at_most x y ≡ false → at_most y x ≡ true };
 
     ghost transitive: { (x y z : Self) → at_most x y ≡ true → at_most y z ≡ true → at_most x z ≡ true };
@@ -57,6 +73,14 @@ impl ValueKind for i32 {
 
     ghost format = { formats.I4 };
 
+    ghost CODE = { code_of formats.I4 };
+
+    ghost WIDTH = { width_of formats.I4 };
+
+    ghost code = { refl };
+
+    ghost width = { refl };
+
     ghost at_most = { int_le };
 
     ghost bits = { whole_bits };
@@ -67,24 +91,16 @@ impl ValueKind for i32 {
 
     ghost transitive = { whole_transitive };
 
-    fn format_code() -> u8 {
-        Self::CODE
-    }
-
-    fn element_width() -> u8 {
-        Self::WIDTH
-    }
-
     fn at_most(&self, other: &i32) -> bool {
-        *self <= *other
+        self <= other
     }
 
     fn to_bytes(&self) -> [u8; 4] {
-        self.cast_unsigned().to_be_bytes()
+        Element::to_bytes(*self)
     }
 
     fn from_bytes(bytes: [u8; 4]) -> Option<i32> {
-        Some(u32::from_be_bytes(bytes).cast_signed())
+        Element::from_bytes(&bytes)
     }
 }
 
@@ -94,6 +110,14 @@ impl ValueKind for Real {
     const WIDTH: u8 = FORMATS[Format::F4 as usize].1;
 
     ghost format = { formats.F4 };
+
+    ghost CODE = { code_of formats.F4 };
+
+    ghost WIDTH = { width_of formats.F4 };
+
+    ghost code = { refl };
+
+    ghost width = { refl };
 
     ghost at_most = { real_at_most };
 
@@ -107,14 +131,6 @@ impl ValueKind for Real {
         (lt_of_not-le x.value y.value (fails _ x.number) (fails _ y.number) (fails _ h))) };
 
     ghost transitive = { λ x y z h k. is_true _ (le_trans x.value y.value z.value (passes _ h) (passes _ k)) };
-
-    fn format_code() -> u8 {
-        Self::CODE
-    }
-
-    fn element_width() -> u8 {
-        Self::WIDTH
-    }
 
     fn at_most(&self, other: &Real) -> bool {
         self.value <= other.value

@@ -4,14 +4,10 @@ ghost use Rattle.std.specs.Float.{binary32};
 ghost use Rattle.kinds.specs.Reals.{real_of, real_of_bits};
 
 use crate::real::Real;
-
-// The sign bit, and the bits of infinity. Without its sign bit a NaN is above infinity.
-const SIGN: u32 = 0x8000_0000;
-
-const INFINITY: u32 = 0x7f80_0000;
+use secs::elements::is_nan;
 
 impl Real {
-    // The real value of a float, or none where that is not a number.
+    // The real value of a float, or none where that is not a number: an Option, since there is one way to be none.
     pub fn new(value: f32) -> Option<Real>
         ensures { result ≡ real_of value }
     {
@@ -25,7 +21,7 @@ impl Real {
     pub(crate) fn from_bits(bits: u32) -> Option<Real>
         ensures { result ≡ real_of_bits bits }
     {
-        if bits % SIGN > INFINITY {
+        if is_nan(bits) {
             return None;
         }
         Real::new(f32::from_bits(bits))

@@ -1,8 +1,10 @@
 ghost use Rattle.std.specs.Prelude.{◌≡◌};
-ghost use Rattle.setup.specs.Plans.{blank_plan, alarm_answer, with_alarm, variable_answer, with_variable, band_answer_of, with_band_of};
+ghost use Rattle.setup.specs.Plans.{blank_plan, alarm_answer, with_alarm, variable_answer, with_variable, band_added, band_answer_of, with_band_of};
+ghost use Rattle.setup.specs.Tables.{entry_at};
 
-use crate::refusal::Refusal;
+use crate::refusal::{Refusal, answer};
 use crate::table::Table;
+use zone::places::BandRefusal;
 use zone::variable::{Bounds, Kind, Variable};
 
 // An alarm: its category, whether its reports are enabled, and whether it is set.
@@ -35,18 +37,18 @@ impl Setup {
         ensures answer { result ≡ alarm_answer number category self.old }
         ensures after { self.new ≡ with_alarm number category self.old }
     {
-        if number < 1 || number > 32 || category > 127 || self.alarms.get(number).is_some() {
-            return (Refusal::Entry.code(), number as usize);
+        if category > 127 {
+            return answer(Err(Refusal::Entry {
+                number,
+                fault: BandRefusal::Number,
+            }));
         }
-        self.alarms.set(
-            number,
-            Alarm {
-                category: category as u8,
-                enabled: true,
-                set: false,
-            },
-        );
-        (0, 0)
+        let alarm = Alarm {
+            category: category as u8,
+            enabled: true,
+            set: false,
+        };
+        answer(self.alarms.add(number, alarm))
     }
 
     // Adds a variable without bands. Answers code and detail.
@@ -54,11 +56,18 @@ impl Setup {
         ensures answer { result ≡ variable_answer number self.old }
         ensures after { self.new ≡ with_variable number kind self.old }
     {
-        if number < 1 || number > 32 || self.variables.get(number).is_some() {
-            return (Refusal::Entry.code(), number as usize);
-        }
-        self.variables.set(number, Variable::new(kind));
-        (0, 0)
+        answer(self.variables.add(number, Variable::new(kind)))
+    }
+
+    // A band of a variable that may be unknown.
+    fn band(&mut self, variable: u32, number: u32, bounds: Bounds) -> Result<(), BandRefusal>
+        ensures answer { result ≡ band_added number bounds (entry_at self.old.variables.entries variable) }
+        ensures after { self.new ≡ with_band_of variable number bounds self.old }
+    {
+        let mut entry = self.variables.get(variable).ok_or(BandRefusal::Number)?;
+        entry.add_band(number, bounds)?;
+        self.variables.set(variable, entry);
+        Ok(())
     }
 
     // Adds a band of a variable, in NO ZONE. Answers code and detail.
@@ -66,15 +75,7 @@ impl Setup {
         ensures answer { result ≡ band_answer_of variable number bounds self.old }
         ensures after { self.new ≡ with_band_of variable number bounds self.old }
     {
-        let Some(mut entry) = self.variables.get(variable) else {
-            return (Refusal::Entry.code(), number as usize);
-        };
-        match entry.add_band(number, bounds).code() {
-            0 => {
-                self.variables.set(variable, entry);
-                (0, 0)
-            }
-            code => (code, number as usize),
-        }
+        let added = self.band(variable, number, bounds);
+        answer(added.map_err(|fault| Refusal::Entry { number, fault }))
     }
 }

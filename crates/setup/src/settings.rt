@@ -8,6 +8,6 @@ pub struct Settings {
     pub fallback: Fallback,
     // OverWriteSpool: a full spool gives up its oldest report for a newer one.
     pub overwrite: bool,
-    // MaxSpoolTransmit: how many reports one transmit sends at most; 0 is no maximum.
+    // MaxSpoolTransmit: how many reports one transmit sends at most; 0 is no maximum, as SEMI E30 has it.
     pub max_transmit: u16,
 }

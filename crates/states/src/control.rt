@@ -29,30 +29,28 @@ impl Control {
     pub fn is_online(self) -> bool
         ensures { result ≡ is_online self }
     {
-        match self {
-            Control::EquipmentOffline | Control::Attempt | Control::HostOffline => false,
-            Control::Local | Control::Remote => true,
-        }
+        matches!(self, Control::Local | Control::Remote)
     }
 }
 
-impl Mode {
-    // The ON-LINE state at this place of the switch.
-    pub fn online(self) -> Control
-        ensures { result ≡ online_at self }
-    {
-        match self {
+// The ON-LINE state at a place of the switch.
+impl From<Mode> for Control {
+    ghost from_gives = { λ mode control. control ≡ online_at mode };
+
+    fn from(mode: Mode) -> Control {
+        match mode {
             Mode::Local => Control::Local,
             Mode::Remote => Control::Remote,
         }
     }
 }
 
-impl Fallback {
-    pub fn state(self) -> Control
-        ensures { result ≡ fallback_state self }
-    {
-        match self {
+// The state to fall back to.
+impl From<Fallback> for Control {
+    ghost from_gives = { λ fallback control. control ≡ fallback_state fallback };
+
+    fn from(fallback: Fallback) -> Control {
+        match fallback {
             Fallback::EquipmentOffline => Control::EquipmentOffline,
             Fallback::HostOffline => Control::HostOffline,
         }

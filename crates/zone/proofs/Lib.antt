@@ -1,4 +1,5 @@
 pub mod Bands
 pub mod Laws
 pub mod Orders
+pub mod Passes
 pub mod Runs

@@ -1,69 +1,65 @@
 // Bands by number: number n stands at place n - 1.
-ghost use Rattle.std.specs.Prelude.{◌≡◌};
-ghost use Rattle.zone.specs.Places.{is_free, add_answer, add_after, zone_at, answer_code};
+ghost use Rattle.std.specs.Prelude.{◌≡◌, replicate};
+ghost use Rattle.zone.specs.Places.{add_answer, add_after, band_refusal_code, is_free, zone_at};
 
-use crate::rule::{Band, Zone};
+use crate::band::{Band, Bands};
+use crate::rule::Zone;
+use kinds::kind::ValueKind;
 
-// What the adding of a band answers.
+// Why a band is refused.
 #[derive(Clone, Copy, PartialEq, Eq, Debug)]
-pub enum BandAnswer {
-    Added,
-    NumberRefused,
-    BoundsRefused,
+pub enum BandRefusal {
+    // The number is none of a place, or a band has it.
+    Number,
+    // The bounds make no band of the variable's kind.
+    Bounds,
 }
 
-impl BandAnswer {
+impl BandRefusal {
+    // By name: u8::from would not say that it is the code of a refusal.
     pub fn code(self) -> u8
-        ensures { result ≡ answer_code self }
+        ensures { result ≡ band_refusal_code self }
     {
         match self {
-            BandAnswer::Added => 0,
-            BandAnswer::NumberRefused => 10,
-            BandAnswer::BoundsRefused => 11,
+            BandRefusal::Number => 10,
+            BandRefusal::Bounds => 11,
         }
     }
 }
 
-// Whether a band of this number can be added.
-fn is_free<K>(bands: &[Option<Band<K>>], number: u32) -> bool
-    ensures { result ≡ is_free bands.now number }
-{
-    if number == 0 || number as usize > bands.len() {
-        return false;
+impl<K: ValueKind + Copy> Bands<K> {
+    // No bands.
+    pub(crate) fn new() -> Bands<K>
+        ensures { result.places ≡ replicate 7 None }
+    {
+        Bands { places: [None; 7] }
     }
-    bands[number as usize - 1].is_none()
-}
 
-// Adds a band, or refuses the number first, then the bounds where they made no band.
-pub(crate) fn add<K: Copy>(
-    bands: &mut [Option<Band<K>>],
-    number: u32,
-    band: Option<Band<K>>,
-) -> BandAnswer
-    ensures answer { result ≡ add_answer bands.old number band }
-    ensures after { bands.new ≡ add_after bands.old number band }
-{
-    if !is_free(bands, number) {
-        return BandAnswer::NumberRefused;
-    }
-    match band {
-        Some(_) => {
-            bands[number as usize - 1] = band;
-            BandAnswer::Added
-        }
-        None => BandAnswer::BoundsRefused,
+    // Adds a band, or refuses the number first, then the bounds that made no band.
+    pub(crate) fn add(
+        &mut self,
+        number: u32,
+        band: Result<Band<K>, BandRefusal>,
+    ) -> Result<(), BandRefusal>
+        ensures answer { result ≡ add_answer self.old.places number band }
+        ensures after { self.new.places ≡ add_after self.old.places number band }
+    {
+        let place = number.checked_sub(1).ok_or(BandRefusal::Number)? as usize;
+        let Some(None) = self.places.get(place) else {
+            return Err(BandRefusal::Number);
+        };
+        self.places[place] = Some(band?);
+        Ok(())
     }
 }
 
-// The zone of a band, or none where there is no band of this number.
-pub(crate) fn zone<K>(bands: &[Option<Band<K>>], number: u32) -> Option<Zone>
-    ensures { result ≡ zone_at bands.now number }
-{
-    if number == 0 || number as usize > bands.len() {
-        return None;
-    }
-    match &bands[number as usize - 1] {
-        Some(band) => Some(band.zone),
-        None => None,
+impl<K: ValueKind> Bands<K> {
+    // The zone of a band, or none where there is no band of this number.
+    pub(crate) fn zone(&self, number: u32) -> Option<Zone>
+        ensures { result ≡ zone_at self.now.places number }
+    {
+        let place = number.checked_sub(1)?;
+        let band = self.places.get(place as usize)?.as_ref()?;
+        Some(band.zone)
     }
 }

@@ -2,14 +2,14 @@
 ghost use Rattle.std.specs.Prelude.{◌≡◌};
 ghost use Rattle.zone.specs.Runs.{band_along, LastDecides, EdgeZones};
 
-use crate::rule::Band;
+use crate::band::Band;
 use kinds::kind::ValueKind;
 
 // Gives a band the samples of a run, one after the other. For every kind of value the last one that is not strictly between
 // the bounds decides the zone.
 pub fn sample_run<K: ValueKind>(band: &mut Band<K>, values: &[K])
-    ensures after { band.new ≡ band_along K.ValueKind.at_most values.now band.old }
-    ensures decides { LastDecides K.ValueKind.at_most }
+    ensures after { band.new ≡ band_along K.ValueKind values.now band.old }
+    ensures decides { LastDecides K.ValueKind }
     ensures edges { EdgeZones }
 {
     for value in values {

@@ -1,11 +1,10 @@
 // A variable: its kind, and its bands, which samples move.
 ghost use Rattle.std.specs.Prelude.{◌≡◌};
-ghost use Rattle.zone.specs.Variables.{AllOrdered, empty_of, kind_of, sample_fault_code, whole_band, real_band, whole_value, real_value, band_answer, with_band, sample_answer, sample_after, zone_of};
+ghost use Rattle.zone.specs.Variables.{EveryOrdered, empty_of, kind_of, sample_fault_code, whole_band, real_band, whole_value, real_value, band_answer, with_band, sample_answer, sample_after, zone_of};
 
-use crate::places::BandAnswer;
-use crate::rule::{Band, Bands, Zone};
-use crate::{places, rule};
-use kinds::kind::ValueKind;
+use crate::band::{Band, Bands};
+use crate::places::BandRefusal;
+use crate::rule::Zone;
 use kinds::real::Real;
 
 #[derive(Clone, Copy, PartialEq, Eq, Debug)]
@@ -28,6 +27,7 @@ pub enum Bounds {
     Real { lower: f32, upper: f32 },
 }
 
+// A variable by its kind: each method matches it, once, and goes on in the bands, which are generic.
 #[derive(Clone, Copy)]
 pub enum Variable {
     Whole(Bands<i32>),
@@ -42,6 +42,7 @@ pub enum SampleFault {
 }
 
 impl SampleFault {
+    // By name: u8::from would not say that it is the code of a refusal.
     pub fn code(self) -> u8
         ensures { result ≡ sample_fault_code self }
     {
@@ -52,51 +53,60 @@ impl SampleFault {
     }
 }
 
-impl Bounds {
-    // The band of a whole variable with these bounds, where they make one.
-    fn whole_band(self) -> Option<Band<i32>>
-        ensures { result ≡ whole_band self }
-    {
-        match self {
-            Bounds::Whole { lower, upper } => Band::new(lower, upper),
-            Bounds::Real { .. } => None,
-        }
-    }
+// The value of a sample, where it is one of the kind.
+impl TryFrom<Sample> for i32 {
+    type Error = SampleFault;
 
-    // The same of a real variable.
-    fn real_band(self) -> Option<Band<Real>>
-        ensures { result ≡ real_band self }
-    {
-        match self {
-            Bounds::Whole { .. } => None,
-            Bounds::Real { lower, upper } => {
-                let lower = Real::new(lower)?;
-                let upper = Real::new(upper)?;
-                Band::new(lower, upper)
-            }
-        }
-    }
-}
+    ghost try_from_gives = { λ sample result. result ≡ whole_value sample };
 
-impl Sample {
-    fn whole_value(self) -> Result<i32, SampleFault>
-        ensures { result ≡ whole_value self }
-    {
-        match self {
+    fn try_from(sample: Sample) -> Result<i32, SampleFault> {
+        match sample {
             Sample::Whole(value) => Ok(value),
             Sample::Real(_) => Err(SampleFault::OtherKind),
         }
     }
+}
 
-    fn real_value(self) -> Result<Real, SampleFault>
-        ensures { result ≡ real_value self }
-    {
-        match self {
+impl TryFrom<Sample> for Real {
+    type Error = SampleFault;
+
+    ghost try_from_gives = { λ sample result. result ≡ real_value sample };
+
+    fn try_from(sample: Sample) -> Result<Real, SampleFault> {
+        match sample {
             Sample::Whole(_) => Err(SampleFault::OtherKind),
-            Sample::Real(value) => match Real::new(value) {
-                Some(value) => Ok(value),
-                None => Err(SampleFault::NotANumber),
-            },
+            Sample::Real(value) => Real::new(value).ok_or(SampleFault::NotANumber),
+        }
+    }
+}
+
+// The band with these bounds, where they make one of the kind.
+impl TryFrom<Bounds> for Band<i32> {
+    type Error = BandRefusal;
+
+    ghost try_from_gives = { λ bounds result. result ≡ whole_band bounds };
+
+    fn try_from(bounds: Bounds) -> Result<Band<i32>, BandRefusal> {
+        match bounds {
+            Bounds::Whole { lower, upper } => Band::new(lower, upper).ok_or(BandRefusal::Bounds),
+            Bounds::Real { .. } => Err(BandRefusal::Bounds),
+        }
+    }
+}
+
+impl TryFrom<Bounds> for Band<Real> {
+    type Error = BandRefusal;
+
+    ghost try_from_gives = { λ bounds result. result ≡ real_band bounds };
+
+    fn try_from(bounds: Bounds) -> Result<Band<Real>, BandRefusal> {
+        match bounds {
+            Bounds::Whole { .. } => Err(BandRefusal::Bounds),
+            Bounds::Real { lower, upper } => {
+                let lower = Real::new(lower).ok_or(BandRefusal::Bounds)?;
+                let upper = Real::new(upper).ok_or(BandRefusal::Bounds)?;
+                Band::new(lower, upper).ok_or(BandRefusal::Bounds)
+            }
         }
     }
 }
@@ -105,11 +115,11 @@ impl Variable {
     // A variable without bands.
     pub fn new(kind: Kind) -> Variable
         ensures value { result ≡ empty_of kind }
-        ensures ordered { AllOrdered result }
+        ensures ordered { EveryOrdered }
     {
         match kind {
-            Kind::Whole => Variable::Whole([None; 7]),
-            Kind::Real => Variable::Real([None; 7]),
+            Kind::Whole => Variable::Whole(Bands::new()),
+            Kind::Real => Variable::Real(Bands::new()),
         }
     }
 
@@ -127,20 +137,19 @@ impl Variable {
         ensures { result ≡ zone_of self.now number }
     {
         match self {
-            Variable::Whole(bands) => places::zone(bands, number),
-            Variable::Real(bands) => places::zone(bands, number),
+            Variable::Whole(bands) => bands.zone(number),
+            Variable::Real(bands) => bands.zone(number),
         }
     }
 
     // Adds a band in NO ZONE. A refusal changes nothing.
-    pub fn add_band(&mut self, number: u32, bounds: Bounds) -> BandAnswer
+    pub fn add_band(&mut self, number: u32, bounds: Bounds) -> Result<(), BandRefusal>
         ensures answer { result ≡ band_answer self.old number bounds }
         ensures after { self.new ≡ with_band self.old number bounds }
-        ensures ordered { AllOrdered self.old → AllOrdered self.new }
     {
         match self {
-            Variable::Whole(bands) => places::add(bands, number, bounds.whole_band()),
-            Variable::Real(bands) => places::add(bands, number, bounds.real_band()),
+            Variable::Whole(bands) => bands.add(number, Band::try_from(bounds)),
+            Variable::Real(bands) => bands.add(number, Band::try_from(bounds)),
         }
     }
 
@@ -148,17 +157,10 @@ impl Variable {
     pub fn sample(&mut self, sample: Sample) -> Result<bool, SampleFault>
         ensures answer { result ≡ sample_answer self.old sample }
         ensures after { self.new ≡ sample_after self.old sample }
-        ensures ordered { AllOrdered self.old → AllOrdered self.new }
     {
         match self {
-            Variable::Whole(bands) => {
-                let value = sample.whole_value()?;
-                Ok(rule::sample(bands, &value))
-            }
-            Variable::Real(bands) => {
-                let value = sample.real_value()?;
-                Ok(rule::sample(bands, &value))
-            }
+            Variable::Whole(bands) => Ok(bands.sample(&i32::try_from(sample)?)),
+            Variable::Real(bands) => Ok(bands.sample(&Real::try_from(sample)?)),
         }
     }
 }

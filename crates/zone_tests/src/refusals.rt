@@ -1,13 +1,18 @@
 // What a refused band or sample answers and leaves.
-use zone::places::BandAnswer;
+use zone::places::BandRefusal;
 use zone::rule::Zone;
 use zone::variable::{Bounds, Kind, Sample, SampleFault, Variable};
 
+// The code of what the adding of a band answers.
+fn code(answer: Result<(), BandRefusal>) -> u8 {
+    answer.err().map_or(0, BandRefusal::code)
+}
+
 #[test]
 fn codes(rt: HostRuntime) {
-    assert_eq!(rt; BandAnswer::Added.code(), 0);
-    assert_eq!(rt; BandAnswer::NumberRefused.code(), 10);
-    assert_eq!(rt; BandAnswer::BoundsRefused.code(), 11);
+    assert_eq!(rt; code(Ok(())), 0);
+    assert_eq!(rt; code(Err(BandRefusal::Number)), 10);
+    assert_eq!(rt; code(Err(BandRefusal::Bounds)), 11);
     assert_eq!(rt; SampleFault::OtherKind.code(), 6);
     assert_eq!(rt; SampleFault::NotANumber.code(), 7);
 }
@@ -22,16 +27,16 @@ fn bands(rt: HostRuntime) {
         upper: 2.0,
     };
     let mut v = Variable::new(Kind::Whole);
-    assert_eq!(rt; v.add_band(0, good), BandAnswer::NumberRefused);
-    assert_eq!(rt; v.add_band(8, high), BandAnswer::NumberRefused);
-    assert_eq!(rt; v.add_band(4294967295, good), BandAnswer::NumberRefused);
-    assert_eq!(rt; v.add_band(7, high), BandAnswer::BoundsRefused);
-    assert_eq!(rt; v.add_band(7, other), BandAnswer::BoundsRefused);
+    assert_eq!(rt; v.add_band(0, good), Err(BandRefusal::Number));
+    assert_eq!(rt; v.add_band(8, high), Err(BandRefusal::Number));
+    assert_eq!(rt; v.add_band(4294967295, good), Err(BandRefusal::Number));
+    assert_eq!(rt; v.add_band(7, high), Err(BandRefusal::Bounds));
+    assert_eq!(rt; v.add_band(7, other), Err(BandRefusal::Bounds));
     assert_eq!(rt; v.zone(7), None);
-    assert_eq!(rt; v.add_band(7, good), BandAnswer::Added);
+    assert_eq!(rt; v.add_band(7, good), Ok(()));
     assert_eq!(rt; v.sample(Sample::Whole(2)), Ok(true));
-    assert_eq!(rt; v.add_band(7, good), BandAnswer::NumberRefused);
-    assert_eq!(rt; v.add_band(7, high), BandAnswer::NumberRefused);
+    assert_eq!(rt; v.add_band(7, good), Err(BandRefusal::Number));
+    assert_eq!(rt; v.add_band(7, high), Err(BandRefusal::Number));
     assert_eq!(rt; v.zone(7), Some(Zone::Above));
 }
 
@@ -46,7 +51,7 @@ fn bounds_that_are_no_numbers(rt: HostRuntime) {
                 upper: 1.0,
             },
         ),
-        BandAnswer::BoundsRefused
+        Err(BandRefusal::Bounds)
     );
     assert_eq!(rt;
         v.add_band(
@@ -56,7 +61,7 @@ fn bounds_that_are_no_numbers(rt: HostRuntime) {
                 upper: f32::NAN,
             },
         ),
-        BandAnswer::BoundsRefused
+        Err(BandRefusal::Bounds)
     );
     assert_eq!(rt;
         v.add_band(
@@ -66,11 +71,11 @@ fn bounds_that_are_no_numbers(rt: HostRuntime) {
                 upper: 1.0,
             },
         ),
-        BandAnswer::BoundsRefused
+        Err(BandRefusal::Bounds)
     );
     assert_eq!(rt;
         v.add_band(1, Bounds::Whole { lower: 1, upper: 2 }),
-        BandAnswer::BoundsRefused
+        Err(BandRefusal::Bounds)
     );
     assert_eq!(rt; v.zone(1), None);
     assert_eq!(rt;
@@ -81,17 +86,14 @@ fn bounds_that_are_no_numbers(rt: HostRuntime) {
                 upper: f32::INFINITY,
             },
         ),
-        BandAnswer::Added
+        Ok(())
     );
 }
 
 #[test]
 fn samples(rt: HostRuntime) {
     let mut w = Variable::new(Kind::Whole);
-    assert_eq!(rt;
-        w.add_band(1, Bounds::Whole { lower: 1, upper: 2 }),
-        BandAnswer::Added
-    );
+    assert_eq!(rt; w.add_band(1, Bounds::Whole { lower: 1, upper: 2 }), Ok(()));
     assert_eq!(rt; w.sample(Sample::Real(5.0)), Err(SampleFault::OtherKind));
     assert_eq!(rt;
         w.sample(Sample::Real(f32::NAN)),
@@ -107,7 +109,7 @@ fn samples(rt: HostRuntime) {
                 upper: 2.0,
             },
         ),
-        BandAnswer::Added
+        Ok(())
     );
     assert_eq!(rt; r.sample(Sample::Whole(5)), Err(SampleFault::OtherKind));
     assert_eq!(rt;

@@ -3,21 +3,18 @@ use std::process::Abort;
 use zone::rule::Zone;
 use zone::variable::{Bounds, Kind, Sample, SampleFault, Variable};
 
+// Two helpers: with one, each call would spell out the case of the bounds.
 fn add_whole(rt: &impl Abort, variable: &mut Variable, number: u32, lower: i32, upper: i32) {
     assert_eq!(rt;
-        variable
-            .add_band(number, Bounds::Whole { lower, upper })
-            .code(),
-        0
+        variable.add_band(number, Bounds::Whole { lower, upper }),
+        Ok(())
     );
 }
 
 fn add_real(rt: &impl Abort, variable: &mut Variable, number: u32, lower: f32, upper: f32) {
     assert_eq!(rt;
-        variable
-            .add_band(number, Bounds::Real { lower, upper })
-            .code(),
-        0
+        variable.add_band(number, Bounds::Real { lower, upper }),
+        Ok(())
     );
 }
 
@@ -30,10 +27,9 @@ fn whole(rt: &impl Abort, variable: &mut Variable, value: i32, moved: bool, zone
 // Some band moves or not, and the first four are in these zones.
 fn four(rt: &impl Abort, variable: &mut Variable, value: f32, moved: bool, zones: [Zone; 4]) {
     assert_eq!(rt; variable.sample(Sample::Real(value)), Ok(moved));
-    assert_eq!(rt; variable.zone(1), Some(zones[0]));
-    assert_eq!(rt; variable.zone(2), Some(zones[1]));
-    assert_eq!(rt; variable.zone(3), Some(zones[2]));
-    assert_eq!(rt; variable.zone(4), Some(zones[3]));
+    for (number, zone) in (1..5).zip(zones) {
+        assert_eq!(rt; variable.zone(number), Some(zone));
+    }
 }
 
 // Readings 99, 101, 100, 100, 99, 100 at a limit of 100 without width. The standard has the lower zone at the second 100 and
@@ -94,10 +90,8 @@ fn calibration_counter(rt: HostRuntime) {
     add_whole(&rt, &mut v, 2, 7, 7);
     add_whole(&rt, &mut v, 3, 8, 8);
     let moves = [true, false, false, false, false, true, false, true, true];
-    let mut count = 0;
-    for moved in moves {
+    for (count, moved) in (0..9).zip(moves) {
         assert_eq!(rt; v.sample(Sample::Whole(count)), Ok(moved));
-        count = count.wrapping_add(1);
     }
     assert_eq!(rt; v.zone(1), Some(Zone::Above));
     assert_eq!(rt; v.zone(2), Some(Zone::Above));

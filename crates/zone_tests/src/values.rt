@@ -33,10 +33,7 @@ fn whole_values(rt: HostRuntime) {
 
 // The bytes of a real value, or none where they are a NaN.
 fn again(bytes: [u8; 4]) -> Option<[u8; 4]> {
-    match <Real as ValueKind>::from_bytes(bytes) {
-        Some(value) => Some(<Real as ValueKind>::to_bytes(&value)),
-        None => None,
-    }
+    Real::from_bytes(bytes).map(|value| value.to_bytes())
 }
 
 #[test]
