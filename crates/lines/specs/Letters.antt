@@ -1,6 +1,7 @@
 -- The letters of the ledger.
-use Rattle.std.specs.Prelude.{ℕ, Bool, true, false}
+use Rattle.std.specs.Prelude.{ℕ, Bool, true, false, List, ◌∷◌, decimal}
 use Rattle.lines.specs.declared.line.Letter.{Letter}
+use Rattle.lines.specs.declared.line.Line.{Line}
 use Rattle.lines.specs.declared.line.Letter.TheVariants.{Made, Acknowledged, SpoolAcknowledged, Dropped, Overwritten, Purged, TurnedAway}
 
 -- the character of each letter: M, A, B, D, O, P, T
@@ -22,3 +23,7 @@ is_end Dropped = true
 is_end Overwritten = true
 is_end Purged = true
 is_end TurnedAway = true
+
+-- a line as a ledger shows it: the letter, a space, the report number
+abbrev pub line_text : Line → List ℕ
+line_text line = character_of line.letter ∷ 32 ∷ decimal line.number

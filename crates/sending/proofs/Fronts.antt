@@ -1,9 +1,7 @@
 -- A frame at the front of a buffer.
 use Rattle.std.proofs.Common.{◌≡◌, ℕ, ◌+◌, ◌≤◌, Bool, true, false, cond, ◌&&◌, leb, List, ◌++◌, length, take, drop, Some, None, sym, refl, ap, ◌∙◌, ap₂, arith}
-use Rattle.std.proofs.lemmas.List.{take_at}
 use Rattle.std.proofs.lemmas.Bool.{le-leb, cond-true}
-use Rattle.octets.specs.Places.{placed}
-use Rattle.frames.specs.Frames.{frame_of, frame_fits, frame_end, frame_written}
+use Rattle.frames.specs.Frames.{frame_of, frame_fits, frame_written}
 use Rattle.frames.specs.declared.header.Header.{Header}
 use Rattle.sending.specs.Sending.{on_buffer}
 
@@ -23,16 +21,7 @@ module _ (out : List ℕ) (h : Header) (body : List ℕ) (short : length body �
       and_true (leb (0 + 14 + length body) (length out)) (leb (10 + length body) 0xffff_ffff) (le-leb (10 + length body) 0xffff_ffff (omega arith))
       ∙ ap (λ n. leb n (length out)) (sym (length_frame h body) ∙ refl)
 
-  pub frame_answer : frame_end out 0 body ≡ cond (leb (length (frame_of h body)) (length out)) (Some (length (frame_of h body))) None
-  frame_answer =
-      ap₂ (λ (b : Bool) (n : ℕ). cond b (Some n) None) fits (sym (length_frame h body))
-
   pub frame_after : frame_written out 0 h body ≡ cond (leb (length (frame_of h body)) (length out)) (on_buffer (frame_of h body) out) out
   frame_after =
       let z : 0 + length (frame_of h body) ≡ length (frame_of h body) = omega arith in
       ap₂ (λ (b : Bool) (n : ℕ). cond b (frame_of h body ++ drop n out) out) fits z
-
--- bytes that were copied to the front of zeros
-pub front : (xs bs ys : List ℕ) (b : Bool) → b ≡ true → ys ≡ cond b (placed xs 0 bs) xs → take (length bs) ys ≡ bs
-front xs bs ys b t e =
-    ap (take (length bs)) (e ∙ cond-true b (placed xs 0 bs) xs t) ∙ take_at bs (drop (0 + length bs) xs) (length bs) refl

@@ -1,7 +1,8 @@
 -- The frame that a call sends.
-use Rattle.std.specs.Prelude.{ℕ, List, [], ◌++◌, length, take, drop, Some, None, Option}
+use Rattle.std.specs.Prelude.{ℕ, List, [], ◌++◌, length, drop, Some, None, Option}
 use Rattle.frames.specs.Frames.{frame_of}
 use Rattle.frames.specs.declared.header.Header.{Header}
+use Rattle.sending.specs.declared.outbox.Message.{Message}
 use Rattle.sending.specs.declared.outbox.Outbox.{Outbox}
 
 -- a frame by its header and its body
@@ -9,13 +10,13 @@ pub record Sent : Type 0 where
   pub header : Header
   pub body : List ℕ
 
--- the frame with a header, where there is one
-abbrev pub sent_with : Option Header → List ℕ → Option Sent
-sent_with None body = None
-sent_with (Some h) body = Some (record { header = h; body = body })
+-- the frame of a message, where there is one
+abbrev pub sent_of : Option Message → Option Sent
+sent_of None = None
+sent_of (Some m) = Some (record { header = m.header; body = m.body.items })
 
 abbrev pub sent_by : Outbox → Option Sent
-sent_by o = sent_with o.header (take o.size o.body)
+sent_by o = sent_of o.message
 
 -- the bytes that are sent
 abbrev pub frame_bytes : Option Sent → List ℕ

@@ -1,3 +1,4 @@
 pub mod Holdings
 pub mod Entering
 pub mod Leaving
+pub mod Ending

@@ -3,4 +3,5 @@
 
 pub mod enter;
 pub mod leave;
+mod oldest;
 pub mod state;

@@ -1,13 +1,15 @@
 // What the spool does with the reports that it holds.
-#[derive(Clone, Copy, PartialEq, Eq, Debug)]
+#[derive(Clone, Copy, PartialEq, Eq, Debug, Default)]
 pub enum Unload {
+    #[default]
     NoOutput,
     Transmit,
     Purge,
 }
 
-// The spool's state beside its list.
-#[derive(Clone, Copy, PartialEq, Eq, Debug)]
+// The spool's state beside its list. The rules stand for every value of the five, not only for those that a run reaches,
+// so `active` is no enum around the others.
+#[derive(Clone, Copy, PartialEq, Eq, Debug, Default)]
 pub struct Spooling {
     pub active: bool,
     // A report met the spool at capacity since it became active.
