@@ -12,6 +12,8 @@ use setup::settings::Settings;
 use spooling::state::{OpenReport, Source, Unload};
 use states::link::Link;
 use store::Store;
+use store::oldest::read_oldest;
+use store::report::BODY_LIMIT;
 
 // Sends the oldest report of a store, which keeps it. Answers the report as it is open from now on.
 pub fn post_oldest<T: Store>(
@@ -24,22 +26,19 @@ pub fn post_oldest<T: Store>(
     ensures answer { result ≡ opened_from source transaction (T.Store.records store.now) }
     ensures after { sent_by outbox.new ≡ posted_from settings.now transaction (T.Store.records store.now) (sent_by outbox.old) }
 {
-    let mut body = [0u8; 480];
-    let Some(copied) = store.read(&mut body) else {
-        return None;
-    };
-    let length = copied.length;
-    let header = our_header(settings, true, copied.stream, copied.function, transaction);
-    outbox.post_bytes(header, &body[0..length]);
+    let mut buffer = [0; BODY_LIMIT];
+    let report = read_oldest(store, &mut buffer)?;
+    let header = our_header(settings, true, report.stream, report.function, transaction);
+    outbox.post_bytes(header, report.body);
     Some(OpenReport {
         transaction,
         source,
-        stream: copied.stream,
-        function: copied.function,
+        stream: report.stream,
+        function: report.function,
     })
 }
 
-// Sends the oldest report of the queue or of the spool.
+// Sends the oldest report of the queue or of the spool; the two may be of two types, so that the call stands twice.
 fn send_report<Q: Store, S: Store>(
     core: &mut Core<Q, S>,
     next: Next,
@@ -83,8 +82,9 @@ fn end_spool<Q: Store, S: Store>(core: &mut Core<Q, S>, next: Next, effects: &mu
 fn is_ready<Q: Store, S: Store>(core: &Core<Q, S>) -> bool
     ensures { result ≡ ready_state core.now.state.link core.now.state.control core.now.reports.pending }
 {
-    let communicating = matches!(core.state.link, Link::Communicating);
-    communicating && core.state.control.is_online() && core.reports.pending.is_none()
+    core.state.link == Link::Communicating
+        && core.state.control.is_online()
+        && core.reports.pending.is_none()
 }
 
 // One step of a transmit.
@@ -105,6 +105,7 @@ fn pump_transmit<Q: Store, S: Store>(core: &mut Core<Q, S>, next: Next, effects:
 }
 
 // One step of what the spool unloads, or of the queue.
+#[tactic(auto, unfolding(crate::specs::Pumps::pumped))]
 pub fn pump<Q: Store, S: Store>(core: &mut Core<Q, S>, next: Next, effects: &mut Effects)
     ensures { view Q.Store S.Store core.new effects.new ≡ pumped next (view Q.Store S.Store core.old effects.old) }
 {

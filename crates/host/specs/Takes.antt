@@ -1,5 +1,5 @@
 -- A frame of the host, in the order of the rules.
-use Rattle.std.specs.Prelude.{ℕ, ◌%◌, Bool, cond, ◌&&◌, ◌||◌, List, Ok, Err, Result, ◌==◌}
+use Rattle.std.specs.Prelude.{◌≡◌, ℕ, ◌%◌, Bool, cond, ◌&&◌, ◌||◌, List, Ok, Err, Result, ◌==◌}
 use Rattle.bodies.specs.declared.body.Body.TheVariants as body
 use Rattle.frames.specs.declared.header.Header.{Header}
 use Rattle.requests.specs.Faults.{fault_code, fault_place, fault_function}
@@ -63,3 +63,13 @@ link_taken n h frame Communicating v = cond (h.session == v.state.settings.sessi
 
 unfoldable pub frame_taken : Next → Header → List ℕ → View → Turn
 frame_taken n h frame v = link_taken n h frame v.state.link v
+
+-- what is answered to a frame that was taken, or to a fault of it: code and detail
+abbrev pub taken_answer : Result (Unit {0}) FrameFault → ℕ × ℕ
+taken_answer (Ok done) = (0, 0)
+taken_answer (Err f) = (fault_code f, fault_place f)
+
+-- a frame ended as a turn says: it was taken, or it is at fault, which nothing tells yet
+abbrev pub TakenAs : Turn → Next → Header → View → Result (Unit {0}) FrameFault → View → Type 0
+TakenAs t n h v (Ok taken) w = t ≡ done w
+TakenAs t n h v (Err f) w = (t ≡ told n h f v) × (w ≡ v)

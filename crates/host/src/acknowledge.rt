@@ -1,5 +1,7 @@
 ghost use Rattle.std.specs.Prelude.{◌≡◌};
-ghost use Rattle.host.specs.Acknowledges.{acknowledge_byte};
+ghost use Rattle.host.specs.Acknowledges.{acknowledge_byte, acknowledging};
+
+use bodies::body::Body;
 
 // What a request of the host is answered; the byte is `acknowledge_byte` of specs/Acknowledges.antt.
 #[derive(Clone, Copy, PartialEq, Eq, Debug)]
@@ -20,6 +22,7 @@ pub enum Acknowledge {
 }
 
 impl Acknowledge {
+    // By name: u8::from would not say that it is the byte of the reply.
     pub fn byte(self) -> u8
         ensures { result ≡ acknowledge_byte self }
     {
@@ -32,5 +35,13 @@ impl Acknowledge {
                 1,
             Acknowledge::AlreadyOnline | Acknowledge::NothingSpooled => 2,
         }
+    }
+}
+
+impl From<Acknowledge> for Body {
+    ghost from_gives = { λ answer body. body ≡ acknowledging answer };
+
+    fn from(answer: Acknowledge) -> Body {
+        Body::Acknowledge(answer.byte())
     }
 }

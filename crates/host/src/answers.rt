@@ -21,20 +21,18 @@ pub fn answers_primary(header: Header, stream: u8, function: u8, transaction: u3
 pub fn answers_session(header: Header, session: Option<OpenSession>) -> bool
     ensures { result ≡ answers_session header session }
 {
-    match session {
-        None => false,
-        Some(sent) => answers_primary(header, 1, sent.request.function(), sent.transaction),
-    }
+    session.is_some_and(|sent| {
+        answers_primary(header, 1, sent.request.function(), sent.transaction)
+    })
 }
 
 // Whether a frame answers the open report.
 pub fn answers_report(header: Header, pending: Option<OpenReport>) -> bool
     ensures { result ≡ answers_report header pending }
 {
-    match pending {
-        None => false,
-        Some(sent) => answers_primary(header, sent.stream, sent.function, sent.transaction),
-    }
+    pending.is_some_and(|sent| {
+        answers_primary(header, sent.stream, sent.function, sent.transaction)
+    })
 }
 
 // Our request, which closed, was answered with this function.
@@ -71,6 +69,7 @@ fn take_acknowledge<Q: Store, S: Store>(core: &mut Core<Q, S>, function: u8, eff
 }
 
 // A frame of an even function: it answers a transaction of ours, or is ignored.
+#[tactic(auto, unfolding(crate::specs::Replies::reply_taken))]
 pub fn take_reply<Q: Store, S: Store>(
     core: &mut Core<Q, S>,
     next: Next,
@@ -79,10 +78,8 @@ pub fn take_reply<Q: Store, S: Store>(
 )
     ensures { view Q.Store S.Store core.new effects.new ≡ reply_taken next header (view Q.Store S.Store core.old effects.old) }
 {
-    let session = core.state.session;
-    if answers_session(header, session) {
-        if let Some(sent) = session {
-            core.state.session = None;
+    if answers_session(header, core.state.session) {
+        if let Some(sent) = core.state.session.take() {
             take_answer(core, next, header.function, sent.request, effects);
         }
     } else if answers_report(header, core.reports.pending) {

@@ -1,5 +1,6 @@
 ghost use Rattle.std.specs.Prelude.{◌≡◌};
-ghost use Rattle.host.specs.Grants.{alarm_granted, granted, online_granted, purge_granted, transmit_granted, unload_answer};
+ghost use Rattle.host.specs.Grants.{alarm_granted, granted, online_granted, unload_answer, unload_granted};
+ghost use Rattle.spooling.specs.Holdings.{with_spooling};
 ghost use Rattle.rules.specs.Views.{view};
 ghost use Rattle.setup.specs.Tables.{entry_at};
 
@@ -9,7 +10,7 @@ use frames::header::Header;
 use requests::request::Request;
 use rules::state::{Core, Effects, Next};
 use setup::plan::Alarm;
-use spooling::state::Unload;
+use spooling::state::{Spooling, Unload};
 use states::control::Control;
 use store::Store;
 
@@ -30,7 +31,7 @@ fn grant_online<Q: Store, S: Store>(
         Control::Local | Control::Remote => Acknowledge::AlreadyOnline,
         Control::EquipmentOffline | Control::Attempt => Acknowledge::OnlineNotAllowed,
     };
-    core.reply(header, 18, Body::Acknowledge(answer.byte()), effects);
+    core.reply(header, 18, Body::from(answer), effects);
 }
 
 // S5,F3.
@@ -43,28 +44,18 @@ fn grant_alarm<Q: Store, S: Store>(
 )
     ensures { view Q.Store S.Store core.new effects.new ≡ alarm_granted header enable number (entry_at core.old.state.setup.alarms.entries number) (view Q.Store S.Store core.old effects.old) }
 {
-    match core.state.setup.alarms.get(number) {
-        None => core.reply(
-            header,
-            4,
-            Body::Acknowledge(Acknowledge::AlarmUnknown.byte()),
-            effects,
-        ),
+    let answer = match core.state.setup.alarms.get(number) {
+        None => Acknowledge::AlarmUnknown,
         Some(alarm) => {
             let changed = Alarm {
-                category: alarm.category,
                 enabled: enable,
-                set: alarm.set,
+                ..alarm
             };
             core.state.setup.alarms.set(number, changed);
-            core.reply(
-                header,
-                4,
-                Body::Acknowledge(Acknowledge::AlarmAccepted.byte()),
-                effects,
-            );
+            Acknowledge::AlarmAccepted
         }
-    }
+    };
+    core.reply(header, 4, Body::from(answer), effects);
 }
 
 // What S6,F23 is answered.
@@ -80,30 +71,24 @@ fn unload_answer<Q: Store, S: Store>(core: &Core<Q, S>) -> Acknowledge
     }
 }
 
-// S6,F23 with 0.
-fn grant_transmit<Q: Store, S: Store>(core: &mut Core<Q, S>, header: Header, effects: &mut Effects)
-    ensures { view Q.Store S.Store core.new effects.new ≡ transmit_granted header (view Q.Store S.Store core.old effects.old) }
+// S6,F23: where it is granted, the spool's state is `begun`.
+fn grant_unload<Q: Store, S: Store>(
+    core: &mut Core<Q, S>,
+    header: Header,
+    begun: Spooling,
+    effects: &mut Effects,
+)
+    ensures { view Q.Store S.Store core.new effects.new ≡ unload_granted header (unload_answer core.old.reports.spooling) (with_spooling begun (view Q.Store S.Store core.old effects.old).held) (view Q.Store S.Store core.old effects.old) }
 {
-    let code = unload_answer(core).byte();
-    if code == 0 {
-        core.reports.spooling.unload = Unload::Transmit;
-        core.reports.spooling.acknowledged = 0;
+    let answer = unload_answer(core);
+    if answer == Acknowledge::UnloadGranted {
+        core.reports.spooling = begun;
     }
-    core.reply(header, 24, Body::Acknowledge(code), effects);
-}
-
-// S6,F23 with 1.
-fn grant_purge<Q: Store, S: Store>(core: &mut Core<Q, S>, header: Header, effects: &mut Effects)
-    ensures { view Q.Store S.Store core.new effects.new ≡ purge_granted header (view Q.Store S.Store core.old effects.old) }
-{
-    let code = unload_answer(core).byte();
-    if code == 0 {
-        core.reports.spooling.unload = Unload::Purge;
-    }
-    core.reply(header, 24, Body::Acknowledge(code), effects);
+    core.reply(header, 24, Body::from(answer), effects);
 }
 
 // Does what a request of the host asks for, and replies.
+#[tactic(auto, unfolding(crate::specs::Grants::granted))]
 pub fn grant<Q: Store, S: Store>(
     core: &mut Core<Q, S>,
     next: Next,
@@ -118,16 +103,25 @@ pub fn grant<Q: Store, S: Store>(
         Request::Establish => core.reply(header, 14, Body::Accepted, effects),
         Request::GoOffline => {
             core.go_offline(next, Control::HostOffline, effects);
-            core.reply(
-                header,
-                16,
-                Body::Acknowledge(Acknowledge::OfflineAccepted.byte()),
-                effects,
-            );
+            let answer = Acknowledge::OfflineAccepted;
+            core.reply(header, 16, Body::from(answer), effects);
         }
         Request::GoOnline => grant_online(core, next, header, effects),
         Request::EnableAlarm { enable, alarm } => grant_alarm(core, header, enable, alarm, effects),
-        Request::Transmit => grant_transmit(core, header, effects),
-        Request::Purge => grant_purge(core, header, effects),
+        Request::Transmit => {
+            let begun = Spooling {
+                unload: Unload::Transmit,
+                acknowledged: 0,
+                ..core.reports.spooling
+            };
+            grant_unload(core, header, begun, effects);
+        }
+        Request::Purge => {
+            let begun = Spooling {
+                unload: Unload::Purge,
+                ..core.reports.spooling
+            };
+            grant_unload(core, header, begun, effects);
+        }
     }
 }

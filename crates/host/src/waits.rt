@@ -22,18 +22,16 @@ fn take_commack<Q: Store, S: Store>(
 {
     match commack {
         None => {}
-        Some(code) => {
-            if code == 0 {
-                core.state.session = None;
-                core.move_link(next, LinkEvent::Accepted, effects);
-            } else {
-                core.move_link(next, LinkEvent::Denied, effects);
-            }
+        Some(0) => {
+            core.state.session = None;
+            core.move_link(next, LinkEvent::Accepted, effects);
         }
+        Some(_) => core.move_link(next, LinkEvent::Denied, effects),
     }
 }
 
 // A frame in WAIT CRA or WAIT DELAY.
+#[tactic(auto, unfolding(crate::specs::Replies::wait_taken))]
 pub fn take_in_wait<Q: Store, S: Store>(
     core: &mut Core<Q, S>,
     next: Next,
@@ -48,7 +46,7 @@ pub fn take_in_wait<Q: Store, S: Store>(
         core.reply(header, 14, Body::Accepted, effects);
         return;
     }
-    let waits = matches!(core.state.link, Link::WaitCra);
+    let waits = core.state.link == Link::WaitCra;
     if waits && header.function == 14 && answers_session(header, core.state.session) {
         take_commack(core, next, read_commack(frame), effects);
     } else {

@@ -1,11 +1,13 @@
-ghost use Rattle.std.specs.Prelude.{◌≡◌};
+ghost use Rattle.std.specs.Prelude.{◌≡◌, ok_or};
 ghost use Rattle.rules.specs.ControlRules.{attempted_at, expired, expiry_of, fell_back, online_switched, overdue_at, switch_of, switched, went_offline, went_online};
 ghost use Rattle.rules.specs.Views.{view};
 ghost use Rattle.rules.specs.declared.state.Effects.{Effects as Pages};
+ghost use Rattle.setup.specs.declared.refusal.Refusal.TheVariants.{Unknown};
 
 use crate::event::Event;
 use crate::send::our_header;
 use crate::state::{Core, Effects, Next, SessionRequest};
+use setup::refusal::Refusal;
 use states::control::{Control, Mode};
 use states::link::{Link, LinkEvent};
 use store::Store;
@@ -32,31 +34,35 @@ pub enum Expiry {
     ReportReply,
 }
 
-impl Switch {
-    pub fn from_number(number: u32) -> Option<Switch>
-        ensures { result ≡ switch_of number }
-    {
+impl TryFrom<u32> for Switch {
+    type Error = Refusal;
+
+    ghost try_from_gives = { λ number result. result ≡ ok_or (switch_of number) (Unknown number) };
+
+    fn try_from(number: u32) -> Result<Switch, Refusal> {
         match number {
-            1 => Some(Switch::Enable),
-            2 => Some(Switch::Disable),
-            3 => Some(Switch::Online),
-            4 => Some(Switch::Offline),
-            5 => Some(Switch::Local),
-            6 => Some(Switch::Remote),
-            _ => None,
+            1 => Ok(Switch::Enable),
+            2 => Ok(Switch::Disable),
+            3 => Ok(Switch::Online),
+            4 => Ok(Switch::Offline),
+            5 => Ok(Switch::Local),
+            6 => Ok(Switch::Remote),
+            _ => Err(Refusal::Unknown { number }),
         }
     }
 }
 
-impl Expiry {
-    pub fn from_number(number: u32) -> Option<Expiry>
-        ensures { result ≡ expiry_of number }
-    {
+impl TryFrom<u32> for Expiry {
+    type Error = Refusal;
+
+    ghost try_from_gives = { λ number result. result ≡ ok_or (expiry_of number) (Unknown number) };
+
+    fn try_from(number: u32) -> Result<Expiry, Refusal> {
         match number {
-            1 => Some(Expiry::CommDelay),
-            2 => Some(Expiry::SessionReply),
-            3 => Some(Expiry::ReportReply),
-            _ => None,
+            1 => Ok(Expiry::CommDelay),
+            2 => Ok(Expiry::SessionReply),
+            3 => Ok(Expiry::ReportReply),
+            _ => Err(Refusal::Unknown { number }),
         }
     }
 }
@@ -66,17 +72,18 @@ impl<Q: Store, S: Store> Core<Q, S> {
     pub fn fall_back(&mut self)
         ensures { (e : Pages) → view Q.Store S.Store self.new e ≡ fell_back (view Q.Store S.Store self.old e) }
     {
-        if let Control::Attempt = self.state.control {
-            self.state.control = self.state.settings.fallback.state();
+        if self.state.control == Control::Attempt {
+            self.state.control = Control::from(self.state.settings.fallback);
         }
     }
 
     // Control goes on-line, to where the switch stands.
+    #[tactic(auto, unfolding(crate::specs::ControlRules::went_online))]
     pub fn go_online(&mut self, next: Next, effects: &mut Effects)
         ensures { view Q.Store S.Store self.new effects.new ≡ went_online next (view Q.Store S.Store self.old effects.old) }
     {
         let mode = self.state.mode;
-        self.state.control = mode.online();
+        self.state.control = Control::from(mode);
         match mode {
             Mode::Local => self.report_event(next, Event::LocalEntered, effects),
             Mode::Remote => self.report_event(next, Event::RemoteEntered, effects),
@@ -84,6 +91,7 @@ impl<Q: Store, S: Store> Core<Q, S> {
     }
 
     // Control leaves ON-LINE for an off-line state.
+    #[tactic(auto, unfolding(crate::specs::ControlRules::went_offline))]
     pub fn go_offline(&mut self, next: Next, control: Control, effects: &mut Effects)
         ensures { view Q.Store S.Store self.new effects.new ≡ went_offline next control (view Q.Store S.Store self.old effects.old) }
     {
@@ -95,21 +103,22 @@ impl<Q: Store, S: Store> Core<Q, S> {
     fn switch_online(&mut self, next: Next, effects: &mut Effects)
         ensures { view Q.Store S.Store self.new effects.new ≡ online_switched next self.old.state.control (view Q.Store S.Store self.old effects.old) }
     {
-        let Control::EquipmentOffline = self.state.control else {
+        if self.state.control != Control::EquipmentOffline {
             return;
-        };
+        }
         match self.state.link {
             Link::Communicating => {
                 self.state.control = Control::Attempt;
                 self.ask(next, SessionRequest::AreYouThere, effects);
             }
             Link::Disabled | Link::WaitCra | Link::WaitDelay => {
-                self.state.control = self.state.settings.fallback.state();
+                self.state.control = Control::from(self.state.settings.fallback);
             }
         }
     }
 
     // The operator moves a switch.
+    #[tactic(auto, unfolding(crate::specs::ControlRules::switched))]
     pub fn switch(&mut self, next: Next, switch: Switch, effects: &mut Effects)
         ensures { view Q.Store S.Store self.new effects.new ≡ switched next switch (view Q.Store S.Store self.old effects.old) }
     {
@@ -127,13 +136,13 @@ impl<Q: Store, S: Store> Core<Q, S> {
             (Switch::Offline, _) => {}
             (Switch::Local, _) => {
                 self.state.mode = Mode::Local;
-                if let Control::Remote = control {
+                if control == Control::Remote {
                     self.go_online(next, effects);
                 }
             }
             (Switch::Remote, _) => {
                 self.state.mode = Mode::Remote;
-                if let Control::Local = control {
+                if control == Control::Local {
                     self.go_online(next, effects);
                 }
             }
@@ -141,6 +150,7 @@ impl<Q: Store, S: Store> Core<Q, S> {
     }
 
     // A timer expires.
+    #[tactic(auto, unfolding(crate::specs::ControlRules::expired))]
     pub fn expire(&mut self, next: Next, expiry: Expiry, effects: &mut Effects)
         ensures { view Q.Store S.Store self.new effects.new ≡ expired next expiry (view Q.Store S.Store self.old effects.old) }
     {
@@ -151,8 +161,7 @@ impl<Q: Store, S: Store> Core<Q, S> {
                 self.move_link(next, LinkEvent::NoReply, effects);
             }
             Expiry::ReportReply => {
-                if let Some(sent) = self.reports.pending {
-                    self.reports.pending = None;
+                if let Some(sent) = self.reports.pending.take() {
                     let header = our_header(
                         &self.state.settings,
                         true,

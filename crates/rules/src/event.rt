@@ -18,6 +18,7 @@ pub enum Event {
 }
 
 impl Event {
+    // By name: u32::from would not say that it is the event's number.
     pub fn number(self) -> u32
         ensures { result ≡ event_number self }
     {

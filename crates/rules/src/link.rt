@@ -22,13 +22,14 @@ impl<Q: Store, S: Store> Core<Q, S> {
     fn stop_transmit(&mut self, next: Next, effects: &mut Effects)
         ensures { view Q.Store S.Store self.new effects.new ≡ stopped_at next self.old.reports.spooling.unload (view Q.Store S.Store self.old effects.old) }
     {
-        if let Unload::Transmit = self.reports.spooling.unload {
+        if self.reports.spooling.unload == Unload::Transmit {
             self.reports.spooling.unload = Unload::NoOutput;
             self.report_event(next, Event::TransmitFailed, effects);
         }
     }
 
     // Communication is lost.
+    #[tactic(auto, unfolding(crate::specs::LinkRules::lost))]
     fn lose(&mut self, next: Next, effects: &mut Effects)
         ensures { view Q.Store S.Store self.new effects.new ≡ lost next (view Q.Store S.Store self.old effects.old) }
     {
@@ -51,6 +52,7 @@ impl<Q: Store, S: Store> Core<Q, S> {
     }
 
     // Moves the communications state, with all that follows.
+    #[tactic(auto, unfolding(crate::specs::LinkRules::linked))]
     pub fn move_link(&mut self, next: Next, event: LinkEvent, effects: &mut Effects)
         ensures { view Q.Store S.Store self.new effects.new ≡ linked next event (view Q.Store S.Store self.old effects.old) }
     {

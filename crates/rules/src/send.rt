@@ -8,7 +8,7 @@ use frames::header::Header;
 use setup::settings::Settings;
 use store::Store;
 
-// The header of a frame of ours.
+// The header of a frame of ours. Its parts are named at each call: a struct of them would be the header.
 pub fn our_header(
     settings: &Settings,
     wait: bool,
@@ -29,6 +29,7 @@ pub fn our_header(
     }
 }
 
+// By name: function and body are two parts of one message.
 impl SessionRequest {
     pub fn function(self) -> u8
         ensures { result ≡ request_function self }
@@ -51,6 +52,7 @@ impl SessionRequest {
 
 impl<Q: Store, S: Store> Core<Q, S> {
     // Sends a request of ours on stream 1; it opens a transaction and closes an older one.
+    #[tactic(auto, unfolding(crate::specs::Sends::asked))]
     pub fn ask(&mut self, next: Next, request: SessionRequest, effects: &mut Effects)
         ensures { view Q.Store S.Store self.new effects.new ≡ asked next request (view Q.Store S.Store self.old effects.old) }
     {
@@ -70,6 +72,7 @@ impl<Q: Store, S: Store> Core<Q, S> {
     }
 
     // Sends a stream-9 message about the frame with this header.
+    #[tactic(auto, unfolding(crate::specs::Sends::faulted))]
     pub fn tell_fault(&mut self, next: Next, function: u8, header: Header, effects: &mut Effects)
         ensures { view Q.Store S.Store self.new effects.new ≡ faulted next function header (view Q.Store S.Store self.old effects.old) }
     {
@@ -79,6 +82,7 @@ impl<Q: Store, S: Store> Core<Q, S> {
     }
 
     // Replies to the primary with this header, where it asks for a reply.
+    #[tactic(auto, unfolding(crate::specs::Sends::replied))]
     pub fn reply(&self, header: Header, function: u8, body: Body, effects: &mut Effects)
         ensures { view Q.Store S.Store self.now effects.new ≡ replied header function body (view Q.Store S.Store self.now effects.old) }
     {

@@ -23,7 +23,7 @@ pub struct OpenSession {
 }
 
 // The numbers of the last primary and of the last report of ours.
-#[derive(Clone, Copy, PartialEq, Eq, Debug)]
+#[derive(Clone, Copy, PartialEq, Eq, Debug, Default)]
 pub struct Counts {
     pub transactions: u32,
     pub reports: u32,
@@ -55,8 +55,9 @@ pub struct Core<Q, S> {
     pub reports: Reports<Q, S>,
 }
 
-// What a call writes: its ledger lines and the frame that it sends.
-#[derive(Clone, Copy)]
+// What a call writes: its ledger lines and the frame that it sends. `Next` is passed beside it: in one struct with what is
+// written, each rule would also have to promise that the numbers stay. The core, which outlives a call, is passed beside both.
+#[derive(Drop)]
 pub struct Effects {
     pub journal: Journal,
     pub outbox: Outbox,
