@@ -16,7 +16,10 @@ use Rattle.rules.specs.declared.control.Expiry.{Expiry}
 use Rattle.rules.specs.declared.control.Switch.{Switch}
 use Rattle.rules.specs.declared.state.Counts.{Counts}
 use Rattle.rules.specs.declared.state.Next.{Next}
+use Rattle.setup.specs.Refusals.{refusal_code}
 use Rattle.setup.specs.Tables.{entry_at}
+use Rattle.setup.specs.declared.refusal.Refusal.{Refusal}
+use Rattle.setup.specs.declared.refusal.Refusal.TheVariants as refusal
 use Rattle.setup.specs.declared.plan.Alarm.{Alarm}
 use Rattle.states.specs.Controls.{is_online}
 use Rattle.states.specs.declared.link.Link.{Link}
@@ -74,21 +77,21 @@ module _ (c : Call) (v : View) where
   done_ends : (w : View) → Ended c (done w) v
   done_ends w = is_done (done w) (record { code = refl; detail = refl })
 
-  refused_ends : (code detail : ℕ) → 1 ≤ code → code ≤ 9 → Ended c (refused code detail v) v
-  refused_ends code detail l h = is_refused (refused code detail v) (record { low = l; high = h; after = refl })
+  refused_ends : (r : Refusal) → 1 ≤ refusal_code r → refusal_code r ≤ 9 → Ended c (refused r v) v
+  refused_ends r l h = is_refused (refused r v) (record { low = l; high = h; after = refl })
 
 -- the refusals that all calls share
 module _ (c : Call) (v : View) where
-  shared_cond : (b : Bool) (x : ℕ × ℕ) (rest : Option (ℕ × ℕ)) → 1 ≤ x.0 → x.0 ≤ 9 → Ended c (unless rest c v) v → Ended c (unless (cond b (Some x) rest) c v) v
-  shared_cond true x rest l h e = refused_ends c v x.0 x.1 l h
+  shared_cond : (b : Bool) (x : Refusal) (rest : Option Refusal) → 1 ≤ refusal_code x → refusal_code x ≤ 9 → Ended c (unless rest c v) v → Ended c (unless (cond b (Some x) rest) c v) v
+  shared_cond true x rest l h e = refused_ends c v x l h
   shared_cond false x rest l h e = e
 
   shared : (fit : Bool) (out ledger : ℕ) (k : Counts) → Ended c (turn_of c v) v → Ended c (unless (refusal_of fit out ledger k) c v) v
-  shared false out ledger k e = refused_ends c v 1 0 (omega arith) (omega arith)
+  shared false out ledger k e = refused_ends c v refusal.Unfit (omega arith) (omega arith)
   shared true out ledger k e =
-      shared_cond (ltb out 512) (2, out) _ (omega arith) (omega arith)
-      (shared_cond (ltb ledger 32) (3, ledger) _ (omega arith) (omega arith)
-      (shared_cond (ltb 4294967000 k.transactions || ltb 4294967000 k.reports) (4, 0) None (omega arith) (omega arith) e))
+      shared_cond (ltb out 512) (refusal.ShortBuffer out) _ (omega arith) (omega arith)
+      (shared_cond (ltb ledger 32) (refusal.ShortLedger ledger) _ (omega arith) (omega arith)
+      (shared_cond (ltb 4294967000 k.transactions || ltb 4294967000 k.reports) refusal.CountsSpent None (omega arith) (omega arith) e))
 
 -- a host's frame
 module _ (frame : Bor (List ℕ)) (v : View) (p : Parted) (split : frame_at frame.now ≡ Some p) where
@@ -131,37 +134,37 @@ module _ (frame : Bor (List ℕ)) (v : View) (p : Parted) (split : frame_at fram
   unfolding frame_taken
   frame_ends = link_ends v.state.link
 
-  parts_end : Ended C (frame_turn frame.now (Some p) v) v
+  parts_end : Ended C (frame_turn (next_of v.state) frame.now (Some p) v) v
   parts_end =
-      either (λ t. Ended C t v) (not (eqb p.header.ptype 0)) _ _ (refused_ends C v 9 4 (omega arith) (omega arith))
-      (either (λ t. Ended C t v) (not (eqb p.header.stype 0)) _ _ (refused_ends C v 9 5 (omega arith) (omega arith)) frame_ends)
+      either (λ t. Ended C t v) (not (eqb p.header.ptype 0)) _ _ (refused_ends C v (refusal.HeaderByte 4) (omega arith) (omega arith))
+      (either (λ t. Ended C t v) (not (eqb p.header.stype 0)) _ _ (refused_ends C v (refusal.HeaderByte 5) (omega arith) (omega arith)) frame_ends)
 
-host_ends : (frame : Bor (List ℕ)) (v : View) → Ended (call.Host frame) (host_turn frame.now v) v
+host_ends : (frame : Bor (List ℕ)) (v : View) → Ended (call.Host frame) (host_turn (next_of v.state) frame.now v) v
 host_ends frame v =
     either (λ t. Ended (call.Host frame) t v) (leb (length frame.now) 490) _ _
     (go (frame_at frame.now) refl)
-    (refused_ends (call.Host frame) v 8 (length frame.now) (omega arith) (omega arith))
+    (refused_ends (call.Host frame) v (refusal.FrameLength (length frame.now)) (omega arith) (omega arith))
   where
-    go : (o : Option Parted) → frame_at frame.now ≡ o → Ended (call.Host frame) (frame_turn frame.now o v) v
-    go None e = refused_ends (call.Host frame) v 8 (length frame.now) (omega arith) (omega arith)
+    go : (o : Option Parted) → frame_at frame.now ≡ o → Ended (call.Host frame) (frame_turn (next_of v.state) frame.now o v) v
+    go None e = refused_ends (call.Host frame) v (refusal.FrameLength (length frame.now)) (omega arith) (omega arith)
     go (Some p) e = parts_end frame v p e
 
 switch_ends : (n : ℕ) (o : Option Switch) (v : View) → Ended (call.Switch n) (switch_turn n o v) v
-switch_ends n None v = refused_ends (call.Switch n) v 5 n (omega arith) (omega arith)
+switch_ends n None v = refused_ends (call.Switch n) v (refusal.Unknown n) (omega arith) (omega arith)
 switch_ends n (Some s) v = done_ends (call.Switch n) v _
 
 expiry_ends : (n : ℕ) (o : Option Expiry) (v : View) → Ended (call.Expiry n) (expiry_turn n o v) v
-expiry_ends n None v = refused_ends (call.Expiry n) v 5 n (omega arith) (omega arith)
+expiry_ends n None v = refused_ends (call.Expiry n) v (refusal.Unknown n) (omega arith) (omega arith)
 expiry_ends n (Some e) v = done_ends (call.Expiry n) v _
 
 module _ (k : ℕ) (s : Sample) (v : View) where
   answer_ends : (x : Variable) (r : Result Bool SampleFault) → Ended (call.Sample k s) (sample_taken (next_of v.state) k x r v) v
   answer_ends x (Ok moved) = done_ends (call.Sample k s) v _
-  answer_ends x (Err OtherKind) = refused_ends (call.Sample k s) v 6 k (omega arith) (omega arith)
-  answer_ends x (Err NotANumber) = refused_ends (call.Sample k s) v 7 k (omega arith) (omega arith)
+  answer_ends x (Err OtherKind) = refused_ends (call.Sample k s) v (refusal.Sample k OtherKind) (omega arith) (omega arith)
+  answer_ends x (Err NotANumber) = refused_ends (call.Sample k s) v (refusal.Sample k NotANumber) (omega arith) (omega arith)
 
   variable_ends : (o : Option Variable) → Ended (call.Sample k s) (sampled_at (next_of v.state) k s o v) v
-  variable_ends None = refused_ends (call.Sample k s) v 5 k (omega arith) (omega arith)
+  variable_ends None = refused_ends (call.Sample k s) v (refusal.Unknown k) (omega arith) (omega arith)
   variable_ends (Some x) = answer_ends (sample_after x s) (sample_answer x s)
 
   sample_ends : Ended (call.Sample k s) (sampled (next_of v.state) k s v) v
@@ -173,7 +176,7 @@ unfolding alarmed
 alarm_ends k set v = go (entry_at v.state.setup.alarms.entries k)
   where
     go : (o : Option Alarm) → Ended (call.Alarm k set) (alarmed_at k set o v) v
-    go None = refused_ends (call.Alarm k set) v 5 k (omega arith) (omega arith)
+    go None = refused_ends (call.Alarm k set) v (refusal.Unknown k) (omega arith) (omega arith)
     go (Some a) = done_ends (call.Alarm k set) v _
 
 turn_ends : (c : Call) (v : View) → Ended c (turn_of c v) v

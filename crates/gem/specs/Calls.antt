@@ -7,9 +7,11 @@ use Rattle.lines.specs.declared.line.Line.{Line}
 use Rattle.rules.specs.Views.{View}
 use Rattle.rules.specs.declared.state.Core.{Core}
 use Rattle.sending.specs.Sending.{frame_bytes, on_buffer}
+use Rattle.setup.specs.declared.refusal.Refusal.{Refusal}
 use Rattle.spooling.specs.Holdings.{shelf}
 use Rattle.store.specs.declared.Store.{Ghosts}
 use Rattle.gem.specs.declared.equipment.Call.{Call}
+use Rattle.gem.specs.declared.equipment.Equipment.{Equipment}
 use Rattle.gem.specs.Turns.{refusal_of, turn_of}
 
 -- an equipment as a call finds it: no line is written and no frame sent yet
@@ -18,9 +20,9 @@ found q s c =
     record { state = c.state; held = record { queue = shelf q c.reports.queue; spool = shelf s c.reports.spool; spooling = c.reports.spooling; pending = c.reports.pending; lines = [] }; sent = None }
 
 -- a refusal that all calls share, or what the call does
-abbrev pub unless : Option (ℕ × ℕ) → Call → View → Turn
+abbrev pub unless : Option Refusal → Call → View → Turn
 unless None c v = turn_of c v
-unless (Some r) c v = refused r.0 r.1 v
+unless (Some r) c v = refused r v
 
 -- a call on an equipment, with an output buffer and a ledger of these lengths
 abbrev pub call_turn : Bool → ℕ → ℕ → Call → View → Turn
@@ -36,6 +38,11 @@ pub record Answered {Q S : Type 0} (q : Ghosts Q) (s : Ghosts S) (t : Turn) (out
   pub pending : c.reports.pending ≡ t.after.held.pending
   pub bytes : out' ≡ on_buffer (frame_bytes t.after.sent) out
   pub lines : ledger' ≡ on_ledger t.after.held.lines ledger
+
+-- a call was made on an equipment with these buffers: its answer, and what it left; whether the stores are fit never changes
+pub record Called {Q S : Type 0} (q : Ghosts Q) (s : Ghosts S) (call : Call) (e e' : Equipment Q S) (out out' : List ℕ) (ledger ledger' : List Line) (r : ℕ × ℕ × ℕ × ℕ) : Type 0 where
+  pub answered : Answered q s (call_turn e.fit (length out) (length ledger) call (found q s e.core)) out ledger r e'.core out' ledger'
+  pub fit : e'.fit ≡ e.fit
 
 -- the equipment, both stores and both buffers are as they were
 pub record Untouched {Q S : Type 0} (q : Ghosts Q) (s : Ghosts S) (c c' : Core Q S) (out out' : List ℕ) (ledger ledger' : List Line) : Type 0 where

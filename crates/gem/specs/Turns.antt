@@ -1,6 +1,5 @@
 -- What each call does.
-use Rattle.std.specs.Prelude.{ℕ, Bool, cond, not, ◌||◌, List, length, Some, None, Option, ◌==◌, nat_le, nat_lt}
-use Rattle.std.specs.Borrow.{Bor}
+use Rattle.std.specs.Prelude.{ℕ, ◌+◌, Bool, cond, not, ◌||◌, List, length, Some, None, Ok, Err, Option, Result, ◌==◌, nat_le, nat_lt}
 use Rattle.actions.specs.Powers.{powered}
 use Rattle.actions.specs.Pumps.{pumped}
 use Rattle.actions.specs.Samples.{refused, sampled}
@@ -12,56 +11,56 @@ use Rattle.rules.specs.Views.{View, next_of}
 use Rattle.rules.specs.declared.control.Expiry.{Expiry}
 use Rattle.rules.specs.declared.control.Switch.{Switch}
 use Rattle.rules.specs.declared.state.Counts.{Counts}
-use Rattle.setup.specs.Refusals.{refusal_code}
+use Rattle.rules.specs.declared.state.Next.{Next}
+use Rattle.setup.specs.declared.refusal.Refusal.{Refusal}
 use Rattle.setup.specs.declared.refusal.Refusal.TheVariants.{CountsSpent, FrameLength, HeaderByte, ShortBuffer, ShortLedger, Unfit, Unknown}
 use Rattle.states.specs.declared.link.LinkEvent.TheVariants.{Failure}
 use Rattle.gem.specs.declared.equipment.Call.{Call}
 use Rattle.gem.specs.declared.equipment.Call.TheVariants as call
-use Rattle.gem.specs.declared.equipment.Operation.{Operation}
-use Rattle.gem.specs.declared.equipment.Operation.TheVariants as operation
 use Rattle.gem.specs.Alarms.{alarmed}
 
--- the call of a kind; only a host's has a frame
-abbrev pub call_of : Operation → Bor (List ℕ) → Call
-call_of operation.Host frame = call.Host frame
-call_of (operation.Switch n) frame = call.Switch n
-call_of (operation.Expiry n) frame = call.Expiry n
-call_of operation.Failure frame = call.Failure
-call_of (operation.Sample k s) frame = call.Sample k s
-call_of (operation.Alarm k set) frame = call.Alarm k set
-call_of operation.Pump frame = call.Pump
-call_of operation.Power frame = call.Power
-
--- the refusals that all calls share, in their order: code and detail
-abbrev pub refusal_of : Bool → ℕ → ℕ → Counts → Option (ℕ × ℕ)
+-- the refusals that all calls share, in their order
+abbrev pub refusal_of : Bool → ℕ → ℕ → Counts → Option Refusal
 refusal_of fit out ledger c =
     cond fit
-    (cond (nat_lt out 512) (Some (refusal_code ShortBuffer, out))
-    (cond (nat_lt ledger 32) (Some (refusal_code ShortLedger, ledger))
-    (cond (nat_lt 4294967000 c.transactions || nat_lt 4294967000 c.reports) (Some (refusal_code CountsSpent, 0)) None)))
-    (Some (refusal_code Unfit, 0))
+    (cond (nat_lt out 512) (Some (ShortBuffer out))
+    (cond (nat_lt ledger 32) (Some (ShortLedger ledger))
+    (cond (nat_lt 4294967000 c.transactions || nat_lt 4294967000 c.reports) (Some CountsSpent) None)))
+    (Some Unfit)
+
+-- the numbers that our next primary and our next report take
+abbrev pub next_after : Counts → Next
+next_after c = record { transaction = c.transactions + 1; report = c.reports + 1 }
+
+-- a refusal, or those numbers
+abbrev pub admitted_by : Option Refusal → Counts → Result Next Refusal
+admitted_by None c = Ok (next_after c)
+admitted_by (Some r) c = Err r
+
+abbrev pub admission : Bool → ℕ → ℕ → Counts → Result Next Refusal
+admission fit out ledger c = admitted_by (refusal_of fit out ledger c) c
 
 -- a switch, refused where it is unknown
 abbrev pub switch_turn : ℕ → Option Switch → View → Turn
-switch_turn n None v = refused (refusal_code Unknown) n v
+switch_turn n None v = refused (Unknown n) v
 switch_turn n (Some s) v = done (switched (next_of v.state) s v)
 
 -- an expiry, refused where it is unknown
 abbrev pub expiry_turn : ℕ → Option Expiry → View → Turn
-expiry_turn n None v = refused (refusal_code Unknown) n v
+expiry_turn n None v = refused (Unknown n) v
 expiry_turn n (Some e) v = done (expired (next_of v.state) e v)
 
 -- a frame of the host: header byte 4 or 5 that is not zero is refused with the earlier place
-abbrev pub frame_turn : List ℕ → Option Parted → View → Turn
-frame_turn frame None v = refused (refusal_code FrameLength) (length frame) v
-frame_turn frame (Some p) v =
-    cond (not (p.header.ptype == 0)) (refused (refusal_code HeaderByte) 4 v)
-    (cond (not (p.header.stype == 0)) (refused (refusal_code HeaderByte) 5 v)
-    (frame_taken (next_of v.state) p.header frame v))
+abbrev pub frame_turn : Next → List ℕ → Option Parted → View → Turn
+frame_turn n frame None v = refused (FrameLength (length frame)) v
+frame_turn n frame (Some p) v =
+    cond (not (p.header.ptype == 0)) (refused (HeaderByte 4) v)
+    (cond (not (p.header.stype == 0)) (refused (HeaderByte 5) v)
+    (frame_taken n p.header frame v))
 
 -- it is refused with its length below 10 or above 490 bytes
-abbrev pub host_turn : List ℕ → View → Turn
-host_turn frame v = cond (nat_le (length frame) 490) (frame_turn frame (frame_at frame) v) (refused (refusal_code FrameLength) (length frame) v)
+abbrev pub host_turn : Next → List ℕ → View → Turn
+host_turn n frame v = cond (nat_le (length frame) 490) (frame_turn n frame (frame_at frame) v) (refused (FrameLength (length frame)) v)
 
 -- the connection fails: an attempt to go on-line falls back
 abbrev pub failed : View → View
@@ -69,7 +68,7 @@ failed v = linked (next_of v.state) Failure (fell_back v)
 
 -- each call
 abbrev pub turn_of : Call → View → Turn
-turn_of (call.Host frame) v = host_turn frame.now v
+turn_of (call.Host frame) v = host_turn (next_of v.state) frame.now v
 turn_of (call.Switch n) v = switch_turn n (switch_of n) v
 turn_of (call.Expiry n) v = expiry_turn n (expiry_of n) v
 turn_of call.Failure v = done (failed v)

@@ -4,12 +4,12 @@ use zone::variable::Sample;
 
 // A started equipment: only `start` makes one, and only it takes the calls.
 pub struct Equipment<Q: Store, S: Store> {
-    // Whether the stores were fit for use at the start.
+    // Whether the stores were fit for use at the start. A flag: unfit ones are held too, to be given back.
     pub(crate) fit: bool,
     pub(crate) core: Core<Q, S>,
 }
 
-// A call of the equipment.
+// A call of the equipment as a value: a run is a list of them.
 #[derive(Clone, Copy)]
 pub enum Call<'a> {
     // A frame of the host: header and body.
@@ -36,17 +36,4 @@ pub struct LentCall<'a> {
     pub call: Call<'a>,
     pub out: usize,
     pub ledger: usize,
-}
-
-// The kind of a call; the frame of a host's is passed beside it.
-#[derive(Clone, Copy)]
-pub(crate) enum Operation {
-    Host,
-    Switch(u32),
-    Expiry(u32),
-    Failure,
-    Sample(u32, Sample),
-    Alarm(u32, bool),
-    Pump,
-    Power,
 }

@@ -4,5 +4,6 @@
 pub mod act;
 pub mod calls;
 pub mod equipment;
+pub mod fault;
 pub mod start;
 pub mod status;

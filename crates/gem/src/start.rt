@@ -7,9 +7,9 @@ ghost use Rattle.spooling.specs.declared.state.Reports.{Reports as Held};
 use crate::equipment::Equipment;
 use rules::state::{Core, Counts, State};
 use setup::plan::Setup;
-use setup::refusal::Refusal;
+use setup::refusal::{Refusal, answer};
 use setup::settings::Settings;
-use spooling::state::{Reports, Spooling, Unload};
+use spooling::state::{Reports, Spooling};
 use states::control::{Control, Mode};
 use states::link::Link;
 use store::Store;
@@ -20,21 +20,19 @@ fn is_fit<Q: Store, S: Store>(queue: &Q, spool: &S) -> bool
 {
     queue.count() == 0
         && spool.count() == 0
-        && queue.capacity() >= 1
-        && queue.capacity() <= 8
-        && spool.capacity() >= 1
-        && spool.capacity() <= 60_000
+        && (1..=8).contains(&queue.capacity())
+        && (1..=60_000).contains(&spool.capacity())
 }
 
 // Whether an equipment can be started on these stores: code 0, else 1; detail 0. Nothing is used up.
 pub fn check<Q: Store, S: Store>(queue: &Q, spool: &S) -> (u8, usize)
     ensures { result ≡ check_of (shelf Q.Store queue.now) (shelf S.Store spool.now) }
 {
-    if is_fit(queue, spool) {
-        (0, 0)
+    answer(if is_fit(queue, spool) {
+        Ok(())
     } else {
-        (Refusal::Unfit.code(), 0)
-    }
+        Err(Refusal::Unfit)
+    })
 }
 
 impl<Q: Store, S: Store> Equipment<Q, S> {
@@ -51,24 +49,14 @@ impl<Q: Store, S: Store> Equipment<Q, S> {
             control: Control::EquipmentOffline,
             mode: Mode::Remote,
             session: None,
-            counts: Counts {
-                transactions: 0,
-                reports: 0,
-            },
+            counts: Counts::default(),
             setup,
             settings,
-        };
-        let spooling = Spooling {
-            active: false,
-            full: false,
-            unload: Unload::NoOutput,
-            total: 0,
-            acknowledged: 0,
         };
         let reports = Reports {
             queue,
             spool,
-            spooling,
+            spooling: Spooling::default(),
             pending: None,
         };
         Equipment {

@@ -1,7 +1,6 @@
 -- Each call keeps the accounts.
 use Rattle.std.proofs.Common.{◌≡◌, ℕ, ◌≤◌, Bool, true, false, cond, not, eqb, leb, List, [], length, Some, None, Option, sym, refl, ap, subst, arith}
 use Rattle.frames.specs.Frames.{Parted, frame_at}
-use Rattle.gem.proofs.Calling.{admitted}
 use Rattle.gem.specs.Alarms.{alarm_changed, alarm_event, alarm_evented, alarm_told, alarmed, alarmed_at, alcd_of, is_same}
 use Rattle.gem.specs.Calls.{call_turn, unless}
 use Rattle.gem.specs.Turns.{expiry_turn, frame_turn, refusal_of, switch_turn, turn_of}
@@ -19,6 +18,7 @@ use Rattle.rules.specs.Reporting.{alarm_reported}
 use Rattle.rules.specs.Views.{View, next_of}
 use Rattle.rules.specs.declared.control.Expiry.{Expiry}
 use Rattle.rules.specs.declared.control.Switch.{Switch}
+use Rattle.setup.specs.declared.refusal.Refusal.{Refusal}
 use Rattle.setup.specs.Tables.{entry_at}
 use Rattle.setup.specs.declared.plan.Alarm.{Alarm}
 use Rattle.setup.specs.declared.settings.Settings.{Settings}
@@ -37,7 +37,7 @@ reported_settings : (v : View) (alcd number : ℕ) → (alarm_reported (next_of 
 unfolding alarm_reported
 reported_settings v alcd number = either (λ (w : View). w.state.settings ≡ v.state.settings) (is_online v.state.control) _ _ (λ _. refl) (λ _. refl)
 
-told_settings : (v : View) (number : ℕ) (x : Alarm) (set : Bool) → (alarm_told number x set v).state.settings ≡ v.state.settings
+told_settings : (v : View) (number : ℕ) (x : Alarm) (set : Bool) → (alarm_told (next_of v.state) number x set v).state.settings ≡ v.state.settings
 told_settings v number x set = either (λ (w : View). w.state.settings ≡ v.state.settings) x.enabled _ _ (λ _. reported_settings v (alcd_of x.category set) number) (λ _. refl)
 
 module _ (past base : List Line) (a : Bool) (v : View) (s : Sound past base 8 a (book_of v)) (z : length (numbers_of is_spool_end v.held.lines) ≡ 0) where
@@ -51,11 +51,11 @@ module _ (past base : List Line) (a : Bool) (v : View) (s : Sound past base 8 a 
   ten f = final_wider 12 (omega arith) f
 
   alarm_told_lem : (number : ℕ) (x : Alarm) (set : Bool) (w : View) → book_of w ≡ book_of v → w.state.settings ≡ v.state.settings
-      → Kept v.state.settings.overwrite past base 10 a (book_of v) (book_of (alarm_told number x set w))
+      → Kept v.state.settings.overwrite past base 10 a (book_of v) (book_of (alarm_told (next_of w.state) number x set w))
   alarm_told_lem number x set w e g =
       let t : Sound past base 8 a (book_of w) = subst (λ (b : Book). Sound past base 8 a b) (sym e) s in
-      subst (λ (b : Book). Kept v.state.settings.overwrite past base 10 a b (book_of (alarm_told number x set w))) e
-      (subst (λ (y : Settings). Kept y.overwrite past base 10 a (book_of w) (book_of (alarm_told number x set w))) g
+      subst (λ (b : Book). Kept v.state.settings.overwrite past base 10 a b (book_of (alarm_told (next_of w.state) number x set w))) e
+      (subst (λ (y : Settings). Kept y.overwrite past base 10 a (book_of w) (book_of (alarm_told (next_of w.state) number x set w))) g
       (either (K past base 10 a w) x.enabled _ _
       (λ _. alarmed_kept past base 8 a (next_of w.state) (alcd_of x.category set) number w t (omega arith) refl)
       (λ _. kept_wider 10 (omega arith) (kept_none t))))
@@ -63,7 +63,7 @@ module _ (past base : List Line) (a : Bool) (v : View) (s : Sound past base 8 a 
   alarm_changed_lem : (number : ℕ) (set : Bool) (x : Alarm) → G (alarm_changed number set x v)
   alarm_changed_lem number set x =
       let w : View = with_alarm number (record { category = x.category; enabled = x.enabled; set = set }) v in
-      let t : View = alarm_told number x set w in
+      let t : View = alarm_told (next_of w.state) number x set w in
       let k = alarm_told_lem number x set w refl refl in
       let e = evented_kept past base 10 a (next_of t.state) (alarm_event number set) t k.sound (omega arith) refl in
       final_same s (kept_then k (subst (λ (y : Settings). Kept y.overwrite past base 12 a (book_of t) (book_of (alarm_evented number set t))) (told_settings w number x set) e))
@@ -80,7 +80,7 @@ module _ (past base : List Line) (a : Bool) (v : View) (s : Sound past base 8 a 
   either_turn true x y p q = p
   either_turn false x y p q = q
 
-  frame_turn_lem : (frame : List ℕ) (p : Option Parted) → G (frame_turn frame p v).after
+  frame_turn_lem : (frame : List ℕ) (p : Option Parted) → G (frame_turn (next_of v.state) frame p v).after
   frame_turn_lem frame None = stays_so
   frame_turn_lem frame (Some p) =
       either_turn (not (eqb p.header.ptype 0)) _ _ stays_so
@@ -114,6 +114,9 @@ rested {past} {base} {k} {a} {b} e l s =
 pub call_final : (fit : Bool) (out ledger : ℕ) (c : Call) (past base : List Line) (a : Bool) (v : View) → v.held.lines ≡ [] → Sound past base 12 a (book_of v) → F past base 12 v (call_turn fit out ledger c v).after
 call_final fit out ledger c past base a v e s = go (refusal_of fit out ledger v.state.counts) refl
   where
-    go : (o : Option (ℕ × ℕ)) → refusal_of fit out ledger v.state.counts ≡ o → F past base 12 v (unless o c v).after
-    go None n = turn_final past base a v (rested e (admitted fit out ledger v.state.counts n).reports s) (ap (λ (ls : List Line). length (numbers_of is_spool_end ls)) e) c
+    few : refusal_of fit out ledger v.state.counts ≡ None → v.state.counts.reports ≤ 4294967000
+    few n = grind arith
+
+    go : (o : Option Refusal) → refusal_of fit out ledger v.state.counts ≡ o → F past base 12 v (unless o c v).after
+    go None n = turn_final past base a v (rested e (few n) s) (ap (λ (ls : List Line). length (numbers_of is_spool_end ls)) e) c
     go (Some r) n = final_same s (kept_none s)

@@ -12,28 +12,30 @@ use Rattle.lines.specs.declared.line.Line.{Line}
 use Rattle.rules.specs.Views.{View}
 use Rattle.rules.specs.declared.state.Core.{Core}
 use Rattle.rules.specs.declared.state.Counts.{Counts}
+use Rattle.setup.specs.declared.refusal.Refusal.{Refusal}
+use Rattle.setup.specs.declared.refusal.Refusal.TheVariants.{CountsSpent, ShortBuffer, ShortLedger, Unfit}
 use Rattle.store.specs.declared.Store.{Ghosts}
 use Rattle.ledger.specs.Sittings.{Left}
 use Rattle.ledger.proofs.Runs.{found_next, lines_fit}
 
-clipped : (code n most : ℕ) (rest : Option (ℕ × ℕ)) → cond (ltb (min n most) most) (Some (code, min n most)) rest ≡ cond (ltb n most) (Some (code, n)) rest
-clipped code n most rest = go (cases_lt n most)
+clipped : (r : ℕ → Refusal) (n most : ℕ) (rest : Option Refusal) → cond (ltb (min n most) most) (Some (r (min n most))) rest ≡ cond (ltb n most) (Some (r n)) rest
+clipped r n most rest = go (cases_lt n most)
   where
-    go : (n < most) ⊎ (most ≤ n) → cond (ltb (min n most) most) (Some (code, min n most)) rest ≡ cond (ltb n most) (Some (code, n)) rest
-    go (inl l) = let e : min n most ≡ n = omega arith in ap (λ (m : ℕ). cond (ltb m most) (Some (code, m)) rest) e
-    go (inr l) = cond-false (ltb (min n most) most) (Some (code, min n most)) rest (le-ltb (min n most) most (omega arith)) ∙ sym (cond-false (ltb n most) (Some (code, n)) rest (le-ltb n most l))
+    go : (n < most) ⊎ (most ≤ n) → cond (ltb (min n most) most) (Some (r (min n most))) rest ≡ cond (ltb n most) (Some (r n)) rest
+    go (inl l) = let e : min n most ≡ n = omega arith in ap (λ (m : ℕ). cond (ltb m most) (Some (r m)) rest) e
+    go (inr l) = cond-false (ltb (min n most) most) (Some (r (min n most))) rest (le-ltb (min n most) most (omega arith)) ∙ sym (cond-false (ltb n most) (Some (r n)) rest (le-ltb n most l))
 
 refusal_clipped : (fit : Bool) (out ledger : ℕ) (k : Counts) → refusal_of fit (min out 512) (min ledger 32) k ≡ refusal_of fit out ledger k
 refusal_clipped fit out ledger k =
-    ap (λ (x : Option (ℕ × ℕ)). cond fit x (Some (1, 0)))
-    (clipped 2 out 512 (cond (ltb (min ledger 32) 32) (Some (3, min ledger 32)) (spent k))
-    ∙ ap (λ (x : Option (ℕ × ℕ)). cond (ltb out 512) (Some (2, out)) x) (clipped 3 ledger 32 (spent k)))
+    ap (λ (x : Option Refusal). cond fit x (Some Unfit))
+    (clipped ShortBuffer out 512 (cond (ltb (min ledger 32) 32) (Some (ShortLedger (min ledger 32))) (spent k))
+    ∙ ap (λ (x : Option Refusal). cond (ltb out 512) (Some (ShortBuffer out)) x) (clipped ShortLedger ledger 32 (spent k)))
   where
-    spent : Counts → Option (ℕ × ℕ)
-    spent c = cond (ltb 4294967000 c.transactions || ltb 4294967000 c.reports) (Some (4, 0)) None
+    spent : Counts → Option Refusal
+    spent c = cond (ltb 4294967000 c.transactions || ltb 4294967000 c.reports) (Some CountsSpent) None
 
 pub call_clipped : (fit : Bool) (out ledger : ℕ) (c : Call) (v : View) → call_turn fit (min out 512) (min ledger 32) c v ≡ call_turn fit out ledger c v
-call_clipped fit out ledger c v = ap (λ (o : Option (ℕ × ℕ)). unless o c v) (refusal_clipped fit out ledger v.state.counts)
+call_clipped fit out ledger c v = ap (λ (o : Option Refusal). unless o c v) (refusal_clipped fit out ledger v.state.counts)
 
 -- lines at the front of a page's front are at the page's front
 on_front : (lines page : List Line) (k : ℕ) → length lines ≤ k → k ≤ length page → on_ledger lines (take k page) ++ drop k page ≡ on_ledger lines page

@@ -32,6 +32,7 @@ use Rattle.rules.specs.declared.control.Switch.TheVariants as switch
 use Rattle.rules.specs.declared.event.Event.{Event}
 use Rattle.rules.specs.declared.event.Event.TheVariants.{OnlineLeft, SpoolActivated, SpoolDeactivated, TransmitFailed, ZoneMoved}
 use Rattle.rules.specs.declared.state.Next.{Next}
+use Rattle.setup.specs.declared.refusal.Refusal.{Refusal}
 use Rattle.setup.specs.Tables.{entry_at}
 use Rattle.setup.specs.declared.plan.Alarm.{Alarm}
 use Rattle.spooling.specs.Leaving.{activated, unloading}
@@ -282,7 +283,7 @@ module _ (v : View) (out : v.state.link ≡ Communicating → ⊥) where
   unfolding sampled
   sampled_out n number x = still (sampled_same n number x (entry_at v.state.setup.variables.entries number))
 
-  alarm_same : (number : ℕ) (set : Bool) (x : Alarm) (w : View) → Same v w → Same v (alarm_told number x set w)
+  alarm_same : (number : ℕ) (set : Bool) (x : Alarm) (w : View) → Same v w → Same v (alarm_told (next_of w.state) number x set w)
   alarm_same number set x w e = either (Same v) x.enabled _ _ (λ _. reported_same (next_of w.state) (alcd_of x.category set) number w ∙ e) (λ _. e)
 
   alarmed_same : (number : ℕ) (set : Bool) (o : Option Alarm) → Same v (alarmed_at number set o v).after
@@ -290,7 +291,7 @@ module _ (v : View) (out : v.state.link ≡ Communicating → ⊥) where
   alarmed_same number set (Some x) =
       either (Same v) (is_same x.set set) _ _ (λ _. refl)
       (λ _. let w : View = with_alarm number (record { category = x.category; enabled = x.enabled; set = set }) v in
-      evented_same (next_of (alarm_told number x set w).state) (alarm_event number set) (alarm_told number x set w) ∙ alarm_same number set x w refl)
+      evented_same (next_of (alarm_told (next_of w.state) number x set w).state) (alarm_event number set) (alarm_told (next_of w.state) number x set w) ∙ alarm_same number set x w refl)
 
   alarmed_out : (number : ℕ) (set : Bool) → Out (alarmed number set v).after
   unfolding alarmed
@@ -348,13 +349,13 @@ module _ (v : View) (out : v.state.link ≡ Communicating → ⊥) where
     unfolding frame_taken
     frame_by n = link_by n v.state.link refl
 
-    pub parts_by : By (frame_turn frame.now (Some p) v).after
+    pub parts_by : By (frame_turn (next_of v.state) frame.now (Some p) v).after
     parts_by = either_by (not (eqb p.header.ptype 0)) _ _ (no_way out) (either_by (not (eqb p.header.stype 0)) _ _ (no_way out) (frame_by (next_of v.state)))
 
-  host_by : (frame : Bor (List ℕ)) → (host_turn frame.now v).after.state.link ≡ Communicating → EstablishedBy (call.Host frame) v
+  host_by : (frame : Bor (List ℕ)) → (host_turn (next_of v.state) frame.now v).after.state.link ≡ Communicating → EstablishedBy (call.Host frame) v
   host_by frame = either (λ (t : Turn). t.after.state.link ≡ Communicating → EstablishedBy (call.Host frame) v) (leb (length frame.now) 490) _ _ (λ _. go (frame_at frame.now) refl) (λ _ t. absurd (out t))
     where
-      go : (o : Option Parted) → frame_at frame.now ≡ o → (frame_turn frame.now o v).after.state.link ≡ Communicating → EstablishedBy (call.Host frame) v
+      go : (o : Option Parted) → frame_at frame.now ≡ o → (frame_turn (next_of v.state) frame.now o v).after.state.link ≡ Communicating → EstablishedBy (call.Host frame) v
       go None e t = absurd (out t)
       go (Some p) e t = parts_by frame p e t
 
@@ -379,6 +380,6 @@ module _ (v : View) (out : v.state.link ≡ Communicating → ⊥) where
   pub call_by : (fit : Bool) (room ledger : ℕ) (c : Call) → (call_turn fit room ledger c v).after.state.link ≡ Communicating → EstablishedBy c v
   call_by fit room ledger c = go (refusal_of fit room ledger v.state.counts)
     where
-      go : (o : Option (ℕ × ℕ)) → (unless o c v).after.state.link ≡ Communicating → EstablishedBy c v
+      go : (o : Option Refusal) → (unless o c v).after.state.link ≡ Communicating → EstablishedBy c v
       go None t = turn_by c t
       go (Some r) t = absurd (out t)

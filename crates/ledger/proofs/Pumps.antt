@@ -13,6 +13,7 @@ use Rattle.rules.specs.Views.{View, next_of, with_held}
 use Rattle.rules.specs.declared.event.Event.{Event}
 use Rattle.rules.specs.declared.event.Event.TheVariants.{SpoolDeactivated}
 use Rattle.rules.specs.declared.state.Next.{Next}
+use Rattle.setup.specs.declared.refusal.Refusal.{Refusal}
 use Rattle.spooling.specs.Entering.{enqueued, made, routed}
 use Rattle.spooling.specs.Holdings.{Holding, add_line}
 use Rattle.spooling.specs.Leaving.{deactivated}
@@ -83,6 +84,6 @@ module _ (n : Next) (v : View) where
 pub pump_untaken : (fit : Bool) (out ledger : ℕ) (v : View) → (v.held.spooling.unload ≡ Purge → ⊥) → Untaken v.held (call_turn fit out ledger call.Pump v).after.held
 pump_untaken fit out ledger v f = go (refusal_of fit out ledger v.state.counts)
   where
-    go : (o : Option (ℕ × ℕ)) → Untaken v.held (unless o call.Pump v).after.held
+    go : (o : Option Refusal) → Untaken v.held (unless o call.Pump v).after.held
     go None = pumped_untaken (next_of v.state) v f
     go (Some r) = untaken v.held

@@ -1,5 +1,5 @@
 ghost use Rattle.std.specs.Prelude.{◌≡◌, ◌≤◌, List, length};
-ghost use Rattle.gem.specs.Calls.{Answered, call_turn, found};
+ghost use Rattle.gem.specs.Calls.{Called};
 ghost use Rattle.gem.specs.Runs.{Beginning, Outcome};
 ghost use Rattle.gem.specs.declared.equipment.LentCall.{LentCall as Lent};
 ghost use Rattle.ledger.specs.Sittings.{Carried, Left, Ran};
@@ -19,10 +19,9 @@ pub fn carry_on<Q: Store, S: Store>(
     out: &mut [u8],
     ledger: &mut [Line],
 ) -> (u8, usize, usize, usize)
-    ensures answered { Answered Q.Store S.Store (call_turn equipment.old.fit (length out.old) (length ledger.old) call.entry (found Q.Store S.Store equipment.old.core)) out.old ledger.old result equipment.new.core out.new ledger.new }
+    ensures called { Called Q.Store S.Store call.entry equipment.old equipment.new out.old out.new ledger.old ledger.new result }
     ensures fits { (result.2 ≤ length out.old) × (result.3 ≤ length ledger.old) }
     ensures carried { (b : Beginning) (calls : List Lent) → Outcome Q.Store S.Store b calls equipment.old.fit equipment.old.core → Carried Q.Store S.Store b calls (record { call = call.entry; out = length out.old; ledger = length ledger.old }) equipment.old.fit equipment.old.core equipment.new.fit equipment.new.core }
-    ensures fit { equipment.new.fit ≡ equipment.old.fit }
 {
     equipment.call(call, out, ledger)
 }
@@ -58,13 +57,11 @@ pub fn run<Q: Store, S: Store>(
 {
     let mut equipment = Equipment::start(setup, settings, queue, spool);
     let mut used = 0;
-    let mut made = 0;
-    for lent in calls {
+    for (made, lent) in calls.iter().enumerate() {
         if ledger.len() - used < 32 {
             return (equipment, made, used);
         }
         used += make_call(&mut equipment, *lent, &mut ledger[used..]);
-        made += 1;
     }
-    (equipment, made, used)
+    (equipment, calls.len(), used)
 }

@@ -9,11 +9,10 @@ returns g c =
     let x = c.args in
     let l : LentCall = record { call = x.call; out = length x.out.now; ledger = length x.ledger.now } in
     record {
-      answered = e.answered;
+      called = e.called;
       fits = (
-        bytes_fit g.Q.Store g.S.Store x.equipment.now.fit l x.equipment.now.core c.call.new.self.core x.out.now c.call.new.out x.ledger.now c.call.new.ledger c.call.result e.answered c.call.auto.out,
-        lines_fit g.Q.Store g.S.Store x.equipment.now.fit l x.equipment.now.core c.call.new.self.core x.out.now c.call.new.out x.ledger.now c.call.new.ledger c.call.result e.answered c.call.auto.ledger,
+        bytes_fit g.Q.Store g.S.Store x.equipment.now.fit l x.equipment.now.core c.call.new.self.core x.out.now c.call.new.out x.ledger.now c.call.new.ledger c.call.result e.called.answered c.call.auto.out,
+        lines_fit g.Q.Store g.S.Store x.equipment.now.fit l x.equipment.now.core c.call.new.self.core x.out.now c.call.new.out x.ledger.now c.call.new.ledger c.call.result e.called.answered c.call.auto.ledger,
       );
-      carried = λ b calls o. carried_on g.Q.Store g.S.Store x.equipment.now.fit l x.equipment.now.core c.call.new.self.core x.out.now c.call.new.out x.ledger.now c.call.new.ledger c.call.result e.answered c.call.new.self.fit e.fit b calls o;
-      fit = e.fit;
+      carried = λ b calls o. carried_on g.Q.Store g.S.Store x.equipment.now.fit l x.equipment.now.core c.call.new.self.core x.out.now c.call.new.out x.ledger.now c.call.new.ledger c.call.result e.called.answered c.call.new.self.fit e.called.fit b calls o;
     }

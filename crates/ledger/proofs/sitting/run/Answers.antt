@@ -1,4 +1,4 @@
-use Rattle.std.proofs.Common.{◌≡◌, [], subst}
+use Rattle.std.proofs.Common.{◌≡◌, ℕ, [], length, subst, arith}
 use Rattle.gem.specs.Runs.{Beginning}
 use Rattle.gem.specs.declared.equipment.Call.TheVariants.{Host}
 use Rattle.gem.specs.declared.equipment.LentCall.{LentCall}
@@ -23,27 +23,29 @@ begins q s setup settings queue spool c e f = λ i. record { setup = (e i).setup
 pub returns-then-ledger-used-lt32 : goal.returns-then-ledger-used-lt32
 returns-then-ledger-used-lt32 g c =
     let x = c.args in
-    let l = c.loop-lent in
+    let l = c.loop-made in
     let e = c.start-equipment.ensures in
     let s = c.start-equipment.result.core in
     subst (λ (b : Beginning). Ran g.Q.Store g.S.Store b x.calls.now x.ledger.now l.made l.used l.equipment.fit l.equipment.core l.ledger)
     (begins g.Q.Store g.S.Store x.setup x.settings x.queue x.spool s e.state e.reports)
-    (ran_short g.Q.Store g.S.Store (beginning_of g.Q.Store g.S.Store s) x.calls.now l.lent-index x.ledger.now l.made l.used l.equipment.fit l.equipment.core l.ledger l.invariant none c.loop-lent-test.true c.if-ledger-used-lt32.true)
+    (ran_short g.Q.Store g.S.Store (beginning_of g.Q.Store g.S.Store s) x.calls.now l.made x.ledger.now l.made l.used l.equipment.fit l.equipment.core l.ledger l.invariant none c.loop-made-test.true c.if-ledger-used-lt32.true)
 
-pub loop-lent-preserved : goal.loop-lent-preserved
-loop-lent-preserved g c =
+pub loop-made-preserved : goal.loop-made-preserved
+loop-made-preserved g c =
     let x = c.args in
-    let l = c.loop-lent in
+    let l = c.loop-made in
     let m = c.make_call-used in
-    making_more g.Q.Store g.S.Store (beginning_of g.Q.Store g.S.Store c.start-equipment.result.core) x.calls.now l.lent-index x.ledger.now l.made l.used l.equipment.fit l.equipment.core l.ledger l.invariant
-    (record { call = Host (record { ref_ptr = (0, 0); now = [] }); out = 0; ledger = 0 }) m.result m.new.equipment.fit m.new.equipment.core m.new.page c.loop-lent-test.true c.if-ledger-used-lt32.false m.ensures.left m.auto.page
+    making_more g.Q.Store g.S.Store (beginning_of g.Q.Store g.S.Store c.start-equipment.result.core) x.calls.now l.made x.ledger.now l.made l.used l.equipment.fit l.equipment.core l.ledger l.invariant
+    (record { call = Host (record { ref_ptr = (0, 0); now = [] }); out = 0; ledger = 0 }) m.result m.new.equipment.fit m.new.equipment.core m.new.page c.loop-made-test.true c.if-ledger-used-lt32.false m.ensures.left m.auto.page
 
 pub returns : goal.returns
 returns g c =
     let x = c.args in
-    let l = c.loop-lent in
+    let l = c.loop-made in
     let e = c.start-equipment.ensures in
     let s = c.start-equipment.result.core in
-    subst (λ (b : Beginning). Ran g.Q.Store g.S.Store b x.calls.now x.ledger.now l.made l.used l.equipment.fit l.equipment.core l.ledger)
+    let all : l.made ≡ length x.calls.now = omega arith in
+    subst (λ (n : ℕ). Ran g.Q.Store g.S.Store (record { setup = x.setup; settings = x.settings; queue = shelf g.Q.Store x.queue; spool = shelf g.S.Store x.spool }) x.calls.now x.ledger.now n l.used l.equipment.fit l.equipment.core l.ledger) all
+    (subst (λ (b : Beginning). Ran g.Q.Store g.S.Store b x.calls.now x.ledger.now l.made l.used l.equipment.fit l.equipment.core l.ledger)
     (begins g.Q.Store g.S.Store x.setup x.settings x.queue x.spool s e.state e.reports)
-    (ran_all g.Q.Store g.S.Store (beginning_of g.Q.Store g.S.Store s) x.calls.now l.lent-index x.ledger.now l.made l.used l.equipment.fit l.equipment.core l.ledger l.invariant c.loop-lent-test.false)
+    (ran_all g.Q.Store g.S.Store (beginning_of g.Q.Store g.S.Store s) x.calls.now l.made x.ledger.now l.made l.used l.equipment.fit l.equipment.core l.ledger l.invariant c.loop-made-test.false))

@@ -1,40 +1,30 @@
-use Rattle.std.proofs.Common.{◌≡◌, ℕ, ◌≤◌, Bool, List, length, sym, subst}
-use Rattle.lines.specs.declared.line.Line.{Line}
-use Rattle.rules.specs.declared.state.Core.{Core}
-use Rattle.store.specs.declared.Store.{Ghosts}
-use Rattle.gem.specs.declared.equipment.Call.{Call}
-use Rattle.gem.specs.Calls.{Answered, Untouched, call_turn, found}
+use Rattle.std.proofs.Common.{length, ◌∙◌}
+use Rattle.rules.specs.declared.state.Effects.{Effects}
+use Rattle.gem.specs.Calls.{found}
+use Rattle.gem.proofs.Calling.{call_answered}
 use Rattle.gem.proofs.Ending.{call_ends, call_refused}
 use Rattle.gem.proofs.equipment.Equipment.call.Goals as goal
 
--- what one kind of call refused, the call refused
-touches : {Q S : Type 0} (q : Ghosts Q) (s : Ghosts S) (fit : Bool) (k call : Call) (is : call ≡ k) (out out' : List ℕ) (ledger ledger' : List Line) (c c' : Core Q S) (r : ℕ × ℕ × ℕ × ℕ)
-    → Answered q s (call_turn fit (length out) (length ledger) k (found q s c)) out ledger r c' out' ledger'
-    → 1 ≤ r.0 → r.0 ≤ 9 → Untouched q s c c' out out' ledger ledger'
-touches q s fit k call is out out' ledger ledger' c c' r a =
-    call_refused q s c c' out out' ledger ledger' fit call r
-    (subst (λ (x : Call). Answered q s (call_turn fit (length out) (length ledger) x (found q s c)) out ledger r c' out' ledger') (sym is) a)
+pub returns-clause-called : goal.returns-clause-called
+returns-clause-called g c =
+    let a = c.args in
+    let e : Effects = record { journal = c.new.result; outbox = c.new-2.result } in
+    record {
+      answered =
+          call_answered g.Q.Store g.S.Store a.self.now.fit a.call a.out.now c.write_to.new.out a.ledger.now c.copy_to.new.ledger a.self.now.core c.act.new.self.core e c.act.new.effects
+          c.new.ensures c.new-2.ensures
+          c.answer-code.result (c.answer-code.ensures ∙ c.act.ensures.answer) c.act.ensures.after
+          c.write_to.result c.write_to.ensures.answer c.write_to.ensures.after c.unwrap_or-bytes.result c.unwrap_or-bytes.ensures
+          c.copy_to.result c.copy_to.ensures.answer c.copy_to.ensures.after c.unwrap_or-lines.result c.unwrap_or-lines.ensures;
+      fit = c.act.ensures.fit;
+    }
 
-pub returns-in-Host-clause-ended : goal.returns-in-Host-clause-ended
-returns-in-Host-clause-ended g c =
+pub returns-clause-ended : goal.returns-clause-ended
+returns-clause-ended g c =
     call_ends c.args.self.now.fit (length c.args.out.now) (length c.args.ledger.now) c.args.call (found g.Q.Store g.S.Store c.args.self.now.core)
 
-pub returns-in-Host-clause-refused : goal.returns-in-Host-clause-refused
-returns-in-Host-clause-refused g c =
-    touches g.Q.Store g.S.Store c.args.self.now.fit _ c.args.call c.in-Host.is c.args.out.now c.host.new.out c.args.ledger.now c.host.new.ledger c.args.self.now.core c.host.new.self.core c.host.result c.host.ensures.answered
-
-pub returns-in-Sample-clause-ended : goal.returns-in-Sample-clause-ended
-returns-in-Sample-clause-ended g c =
-    call_ends c.args.self.now.fit (length c.args.out.now) (length c.args.ledger.now) c.args.call (found g.Q.Store g.S.Store c.args.self.now.core)
-
-pub returns-in-Sample-clause-refused : goal.returns-in-Sample-clause-refused
-returns-in-Sample-clause-refused g c =
-    touches g.Q.Store g.S.Store c.args.self.now.fit _ c.args.call c.in-Sample.is c.args.out.now c.sample.new.out c.args.ledger.now c.sample.new.ledger c.args.self.now.core c.sample.new.self.core c.sample.result c.sample.ensures.answered
-
-pub returns-in-Alarm-clause-ended : goal.returns-in-Alarm-clause-ended
-returns-in-Alarm-clause-ended g c =
-    call_ends c.args.self.now.fit (length c.args.out.now) (length c.args.ledger.now) c.args.call (found g.Q.Store g.S.Store c.args.self.now.core)
-
-pub returns-in-Alarm-clause-refused : goal.returns-in-Alarm-clause-refused
-returns-in-Alarm-clause-refused g c =
-    touches g.Q.Store g.S.Store c.args.self.now.fit _ c.args.call c.in-Alarm.is c.args.out.now c.alarm.new.out c.args.ledger.now c.alarm.new.ledger c.args.self.now.core c.alarm.new.self.core c.alarm.result c.alarm.ensures.answered
+pub returns-clause-refused : goal.returns-clause-refused
+returns-clause-refused g c =
+    call_refused g.Q.Store g.S.Store c.args.self.now.core c.act.new.self.core c.args.out.now c.write_to.new.out c.args.ledger.now c.copy_to.new.ledger
+    c.args.self.now.fit c.args.call (c.answer-code.result.0, c.answer-code.result.1, c.unwrap_or-bytes.result, c.unwrap_or-lines.result)
+    (returns-clause-called g c).answered
