@@ -6,11 +6,7 @@ mod frames_of_host;
 mod session;
 mod show;
 
-fn run(rt: &HostRuntime) -> anyhow::Result<()> {
-    by_hand::one_report(rt)?;
-    session::run(rt)
-}
-
 fn main(rt: HostRuntime) -> anyhow::Result<()> {
-    run(&rt)
+    by_hand::one_report(&rt)?;
+    session::run(&rt)
 }

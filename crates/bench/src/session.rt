@@ -2,12 +2,13 @@
 // reconnects and unloads the spool.
 use crate::frames_of_host::{frame, primary, reply_to, unload_frame};
 use crate::show;
+use anyhow::Context;
 use bodies::body::Body;
 use frames::frame::split_frame;
 use frames::header::Header;
-use gem::equipment::Equipment;
+use gem::equipment::{Call, Equipment};
 use gem::start::check;
-use lines::line::{Letter, Line};
+use lines::line::Line;
 use setup::plan::Setup;
 use setup::settings::Settings;
 use states::control::Fallback;
@@ -15,235 +16,137 @@ use store::record::Record;
 use store::ring::Ring;
 use zone::variable::{Bounds, Kind, Sample};
 
-// What the operator and the machine do.
-#[derive(Clone, Copy)]
-enum Step {
-    Switch(u32),
-    Expiry(u32),
-    Failure,
-    Alarm(u32, bool),
-    Sample(u32, i32),
-    Pump,
-}
-
 // The equipment with the buffers that its calls are lent.
-struct Bench {
-    equipment: Equipment<Ring, Ring>,
+#[derive(Drop)]
+struct Bench<'a> {
+    rt: &'a HostRuntime,
+    equipment: &'a mut Equipment<Ring, Ring>,
     out: [u8; 512],
     ledger: [Line; 32],
-    // The header of the frame that the last call sent, or the one before where it sent none.
-    last: Header,
+    // The header of the last frame that was sent.
+    last: Option<Header>,
 }
 
-// Prints what a call answered and wrote, and keeps the header of the frame that it sent.
-fn tell(
-    rt: &HostRuntime,
-    bench: &mut Bench,
-    answer: (u8, usize, usize, usize),
-) -> anyhow::Result<()> {
-    let (code, detail, bytes, count) = answer;
-    println!(rt; "    answer {code} {detail}, {bytes} bytes, {count} lines")?;
-    let end = bytes.min(512);
-    if end > 4 {
-        show::hex(rt, &bench.out[0..end])?;
-        show::text(rt, &bench.out[4..end])?;
-        if let Some(parts) = split_frame(&bench.out[4..end]) {
-            bench.last = parts.header;
+impl Bench<'_> {
+    // Makes a call, prints what it answers and writes, and keeps the header of the frame that it sends.
+    fn call(&mut self, title: &str, call: Call<'_>) -> anyhow::Result<()> {
+        let rt = self.rt;
+        println!(rt; "{title}")?;
+        if let Call::Host(frame) = call {
+            show::text(rt, frame)?;
         }
+        let answer = self.equipment.call(call, &mut self.out, &mut self.ledger);
+        let (code, detail, bytes, lines) = answer;
+        println!(rt; "    answer {code} {detail}, {bytes} bytes, {lines} lines")?;
+        if let Some(sent @ [_, _, _, _, frame @ ..]) = self.out.get(..bytes) {
+            show::hex(rt, sent)?;
+            show::text(rt, frame)?;
+            self.last = split_frame(frame).map(|parts| parts.header);
+        }
+        for line in self.ledger.iter().take(lines) {
+            show::line(rt, *line)?;
+        }
+        Ok(())
     }
-    let lines = count.min(32);
-    for i in 0..lines {
-        show::line(rt, bench.ledger[i])?;
+
+    // A frame of the host with one of our bodies.
+    fn host(&mut self, title: &str, header: Header, body: Body) -> anyhow::Result<()> {
+        let bytes = frame(self.rt.alloc(), header, &body.bytes())?;
+        self.call(title, Call::Host(&bytes))
     }
-    Ok(())
-}
 
-// One step of the operator or the machine.
-fn take_step(rt: &HostRuntime, bench: &mut Bench, title: &str, step: Step) -> anyhow::Result<()> {
-    println!(rt; "{title}")?;
-    let equipment = &mut bench.equipment;
-    let out = &mut bench.out;
-    let ledger = &mut bench.ledger;
-    let answer = match step {
-        Step::Switch(number) => equipment.switch(number, out, ledger),
-        Step::Expiry(number) => equipment.expiry(number, out, ledger),
-        Step::Failure => equipment.failure(out, ledger),
-        Step::Alarm(number, set) => equipment.alarm(number, set, out, ledger),
-        Step::Sample(number, value) => equipment.sample(number, Sample::Whole(value), out, ledger),
-        Step::Pump => equipment.pump(out, ledger),
-    };
-    tell(rt, bench, answer)
-}
+    // The header of the host's reply to what was sent last.
+    fn reply_header(&self) -> anyhow::Result<Header> {
+        let ours = self.last.context("no frame was sent")?;
+        Ok(reply_to(ours))
+    }
 
-// The bytes of one frame of the host.
-fn take_frame(
-    rt: &HostRuntime,
-    bench: &mut Bench,
-    title: &str,
-    bytes: &[u8],
-) -> anyhow::Result<()> {
-    println!(rt; "{title}")?;
-    show::text(rt, bytes)?;
-    let answer = bench
-        .equipment
-        .host(bytes, &mut bench.out, &mut bench.ledger);
-    tell(rt, bench, answer)
-}
+    // The host's reply to what was sent last.
+    fn reply(&mut self, title: &str, body: Body) -> anyhow::Result<()> {
+        let header = self.reply_header()?;
+        self.host(title, header, body)
+    }
 
-// One frame of the host with one of our bodies.
-fn host(
-    rt: &HostRuntime,
-    bench: &mut Bench,
-    title: &str,
-    header: Header,
-    body: Body,
-) -> anyhow::Result<()> {
-    let bytes = frame(rt.alloc(), header, body)?;
-    take_frame(rt, bench, title, &bytes)
-}
+    fn acknowledge(&mut self) -> anyhow::Result<()> {
+        self.reply("The host acknowledges it", Body::Acknowledge(0))
+    }
 
-// The host acknowledges what was sent last.
-fn acknowledge(rt: &HostRuntime, bench: &mut Bench) -> anyhow::Result<()> {
-    let header = reply_to(bench.last);
-    host(
-        rt,
-        bench,
-        "The host acknowledges it",
-        header,
-        Body::Acknowledge(0),
-    )
-}
+    fn connect(&mut self) -> anyhow::Result<()> {
+        self.call("The operator enables communications", Call::Switch(1))?;
+        self.reply("The host accepts", Body::Accepted)?;
+        self.call("The operator switches on-line", Call::Switch(3))?;
+        self.reply("The host is there: control is remote", Body::Identity)?;
+        self.call("The report is sent", Call::Pump)?;
+        let wrong = Header {
+            transaction: 99,
+            ..self.reply_header()?
+        };
+        let title = "The host acknowledges another transaction";
+        self.host(title, wrong, Body::Acknowledge(0))?;
+        self.acknowledge()
+    }
 
-fn connect(rt: &HostRuntime, bench: &mut Bench) -> anyhow::Result<()> {
-    take_step(
-        rt,
-        bench,
-        "The operator enables communications",
-        Step::Switch(1),
-    )?;
-    let reply = reply_to(bench.last);
-    host(rt, bench, "The host accepts", reply, Body::Accepted)?;
-    take_step(rt, bench, "The operator switches on-line", Step::Switch(3))?;
-    let reply = reply_to(bench.last);
-    host(
-        rt,
-        bench,
-        "The host is there: control is remote",
-        reply,
-        Body::Identity,
-    )?;
-    take_step(rt, bench, "The report is sent", Step::Pump)?;
-    let wrong = Header {
-        transaction: 99,
-        ..reply_to(bench.last)
-    };
-    host(
-        rt,
-        bench,
-        "The host acknowledges another transaction",
-        wrong,
-        Body::Acknowledge(0),
-    )?;
-    acknowledge(rt, bench)
-}
+    fn report(&mut self) -> anyhow::Result<()> {
+        self.call("Alarm 1 is set", Call::Alarm(1, true))?;
+        let above = Call::Sample(1, Sample::Whole(25));
+        self.call("Variable 1 is 25: above its band", above)?;
+        self.call("The alarm report is sent", Call::Pump)?;
+        self.acknowledge()?;
+        self.call("The event report is sent", Call::Pump)?;
+        self.acknowledge()
+    }
 
-fn report(rt: &HostRuntime, bench: &mut Bench) -> anyhow::Result<()> {
-    take_step(rt, bench, "Alarm 1 is set", Step::Alarm(1, true))?;
-    take_step(
-        rt,
-        bench,
-        "Variable 1 is 25: above its band",
-        Step::Sample(1, 25),
-    )?;
-    take_step(rt, bench, "The alarm report is sent", Step::Pump)?;
-    acknowledge(rt, bench)?;
-    take_step(rt, bench, "The event report is sent", Step::Pump)?;
-    acknowledge(rt, bench)
-}
+    fn spool(&mut self) -> anyhow::Result<()> {
+        let title = "The link fails: the queue goes to the spool";
+        self.call(title, Call::Failure)?;
+        self.call("Alarm 1 is cleared", Call::Alarm(1, false))?;
+        self.reply("The host accepts again", Body::Accepted)?;
+        self.call("Nothing is sent while the spool waits", Call::Pump)
+    }
 
-fn spool(rt: &HostRuntime, bench: &mut Bench) -> anyhow::Result<()> {
-    take_step(
-        rt,
-        bench,
-        "The link fails: the queue goes to the spool",
-        Step::Failure,
-    )?;
-    take_step(rt, bench, "Alarm 1 is cleared", Step::Alarm(1, false))?;
-    let reply = reply_to(bench.last);
-    host(rt, bench, "The host accepts again", reply, Body::Accepted)?;
-    take_step(
-        rt,
-        bench,
-        "Nothing is sent while the spool waits",
-        Step::Pump,
-    )
-}
+    // Sends the oldest report of the spool, and the host acknowledges it.
+    fn unload_one(&mut self) -> anyhow::Result<()> {
+        self.call("A spooled report is sent", Call::Pump)?;
+        self.acknowledge()
+    }
 
-// Sends the oldest report of the spool, and the host acknowledges it.
-fn unload_one(rt: &HostRuntime, bench: &mut Bench) -> anyhow::Result<()> {
-    take_step(rt, bench, "A spooled report is sent", Step::Pump)?;
-    acknowledge(rt, bench)
-}
+    fn unload(&mut self) -> anyhow::Result<()> {
+        let title = "The host asks for the spool, with a body that is no U1";
+        self.host(title, primary(6, 23, 500), Body::Acknowledge(0))?;
+        let title = "An expiry that no timer has is refused";
+        self.call(title, Call::Expiry(9))?;
+        let bytes = unload_frame(self.rt.alloc(), primary(6, 23, 501), 0)?;
+        self.call("The host asks for the spool", Call::Host(&bytes))?;
+        self.unload_one()?;
+        self.unload_one()?;
+        self.unload_one()
+    }
 
-fn unload(rt: &HostRuntime, bench: &mut Bench) -> anyhow::Result<()> {
-    let header = primary(6, 23, 500);
-    host(
-        rt,
-        bench,
-        "The host asks for the spool, with a body that is no U1",
-        header,
-        Body::Acknowledge(0),
-    )?;
-    take_step(
-        rt,
-        bench,
-        "An expiry that no timer has is refused",
-        Step::Expiry(9),
-    )?;
-    let bytes = unload_frame(rt.alloc(), primary(6, 23, 501), 0)?;
-    take_frame(rt, bench, "The host asks for the spool", &bytes)?;
-    unload_one(rt, bench)?;
-    unload_one(rt, bench)?;
-    unload_one(rt, bench)
-}
+    // The last spooled report, the end of the spool, and the report of that end.
+    fn finish(&mut self) -> anyhow::Result<()> {
+        self.unload_one()?;
+        self.call("The spool is empty: it becomes inactive", Call::Pump)?;
+        self.call("The report of that is sent from the queue", Call::Pump)?;
+        self.acknowledge()?;
+        self.call("The operator disables communications", Call::Switch(2))
+    }
 
-// The last spooled report, the end of the spool, and the report of that end.
-fn finish(rt: &HostRuntime, bench: &mut Bench) -> anyhow::Result<()> {
-    unload_one(rt, bench)?;
-    take_step(
-        rt,
-        bench,
-        "The spool is empty: it becomes inactive",
-        Step::Pump,
-    )?;
-    take_step(
-        rt,
-        bench,
-        "The report of that is sent from the queue",
-        Step::Pump,
-    )?;
-    acknowledge(rt, bench)?;
-    take_step(
-        rt,
-        bench,
-        "The operator disables communications",
-        Step::Switch(2),
-    )
-}
-
-fn sitting(rt: &HostRuntime, bench: &mut Bench) -> anyhow::Result<()> {
-    connect(rt, bench)?;
-    report(rt, bench)?;
-    spool(rt, bench)?;
-    unload(rt, bench)?;
-    finish(rt, bench)
+    // The whole run, after the check before the start answered this code.
+    fn sitting(&mut self, code: u8) -> anyhow::Result<()> {
+        println!(self.rt; "The check before the start answers {code}")?;
+        self.connect()?;
+        self.report()?;
+        self.spool()?;
+        self.unload()?;
+        self.finish()
+    }
 }
 
 fn plan() -> Setup {
     let mut plan = Setup::new();
-    let _ = plan.add_alarm(1, 4);
-    let _ = plan.add_variable(1, Kind::Whole);
-    let _ = plan.add_band(
+    plan.add_alarm(1, 4);
+    plan.add_variable(1, Kind::Whole);
+    plan.add_band(
         1,
         1,
         Bounds::Whole {
@@ -254,6 +157,13 @@ fn plan() -> Setup {
     plan
 }
 
+const SETTINGS: Settings = Settings {
+    session: 7,
+    fallback: Fallback::HostOffline,
+    overwrite: false,
+    max_transmit: 0,
+};
+
 pub fn run(rt: &HostRuntime) -> anyhow::Result<()> {
     println!(rt; "== The equipment ==")?;
     let queue_slots = vec![in rt.alloc(); Record::blank(); 4]?;
@@ -261,33 +171,17 @@ pub fn run(rt: &HostRuntime) -> anyhow::Result<()> {
     let queue = Ring::new(queue_slots);
     let spool = Ring::new(spool_slots);
     let (code, _) = check(&queue, &spool);
-    let settings = Settings {
-        session: 7,
-        fallback: Fallback::HostOffline,
-        overwrite: false,
-        max_transmit: 0,
-    };
-    let blank = Line {
-        letter: Letter::Made,
-        number: 0,
-    };
+    let mut equipment = Equipment::start(plan(), SETTINGS, queue, spool);
     let mut bench = Bench {
-        equipment: Equipment::start(plan(), settings, queue, spool),
+        rt,
+        equipment: &mut equipment,
         out: [0; 512],
-        ledger: [blank; 32],
-        last: primary(0, 0, 0),
+        ledger: [Line::default(); 32],
+        last: None,
     };
-    let started = println!(rt; "The check before the start answers {code}");
-    let result = sitting(rt, &mut bench);
-    let Bench {
-        equipment,
-        out: _,
-        ledger: _,
-        last: _,
-    } = bench;
+    let result = bench.sitting(code);
     let (queue, spool) = equipment.into_stores();
-    let _ = queue.into_slots();
-    let _ = spool.into_slots();
-    started?;
+    queue.into_slots();
+    spool.into_slots();
     result
 }

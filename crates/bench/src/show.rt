@@ -20,8 +20,6 @@ pub fn text(rt: &HostRuntime, frame: &[u8]) -> anyhow::Result<()> {
 
 // A ledger line.
 pub fn line(rt: &HostRuntime, line: Line) -> anyhow::Result<()> {
-    let letter = char::from(line.letter.character());
-    let number = line.number;
-    println!(rt; "    ledger {letter} {number}")?;
+    println!(rt; "    ledger {line}")?;
     Ok(())
 }

@@ -1,5 +1,6 @@
 // Alarms and samples.
 use crate::driver::{Act, SETTINGS, Stage, done, run};
+use gem::equipment::Call;
 use std::test::Fail;
 use zone::variable::Sample;
 
@@ -8,29 +9,28 @@ use zone::variable::Sample;
 fn set_alarm(rt: HostRuntime) -> Result<(), Fail> {
     let counts = run(
         &rt,
-        rt.alloc(),
         SETTINGS,
         Stage::Ready,
         &[
-            done(Act::Alarm(1, true), b"", &[(b'M', 2), (b'M', 3)]),
-            done(Act::Alarm(1, true), b"", &[]),
+            done(Call::Alarm(1, true), "", &[(b'M', 2), (b'M', 3)]),
+            done(Call::Alarm(1, true), "", &[]),
             // S5,F1 W: ALCD 132, alarm 1
             done(
-                Act::Pump,
-                b"00000017 0007 8501 0000 00000004 0103 210184 b10400000001 4100",
+                Call::Pump,
+                "00000017 0007 8501 0000 00000004 0103 210184 b10400000001 4100",
                 &[],
             ),
             // the host's S5,F2
-            done(Act::Host(b"0007 0502 0000 00000004"), b"", &[(b'A', 2)]),
+            done(Act::Frame("0007 0502 0000 00000004"), "", &[(b'A', 2)]),
             // S6,F11 W: report 3, event 101
             done(
-                Act::Pump,
-                b"0000001a 0007 860b 0000 00000005 0103 b10400000003 b10400000065 0100",
+                Call::Pump,
+                "0000001a 0007 860b 0000 00000005 0103 b10400000003 b10400000065 0100",
                 &[],
             ),
             // the host's S6,F12
-            done(Act::Host(b"0007 060c 0000 00000005"), b"", &[(b'A', 3)]),
-            done(Act::Pump, b"", &[]),
+            done(Act::Frame("0007 060c 0000 00000005"), "", &[(b'A', 3)]),
+            done(Call::Pump, "", &[]),
         ],
     )?;
     assert_eq!(rt; counts, (0, 0));
@@ -42,30 +42,29 @@ fn set_alarm(rt: HostRuntime) -> Result<(), Fail> {
 fn clear_alarm(rt: HostRuntime) -> Result<(), Fail> {
     let counts = run(
         &rt,
-        rt.alloc(),
         SETTINGS,
         Stage::Ready,
         &[
-            done(Act::Alarm(1, false), b"", &[]),
-            done(Act::Alarm(1, true), b"", &[(b'M', 2), (b'M', 3)]),
+            done(Call::Alarm(1, false), "", &[]),
+            done(Call::Alarm(1, true), "", &[(b'M', 2), (b'M', 3)]),
             // the host's S1,F15
             done(
-                Act::Host(b"0007 010f 0000 000000aa"),
-                b"",
+                Act::Frame("0007 010f 0000 000000aa"),
+                "",
                 &[(b'M', 4), (b'D', 4)],
             ),
-            done(Act::Alarm(1, false), b"", &[]),
+            done(Call::Alarm(1, false), "", &[]),
             // the host's S1,F17
             done(
-                Act::Host(b"0007 0111 0000 000000aa"),
-                b"",
+                Act::Frame("0007 0111 0000 000000aa"),
+                "",
                 &[(b'M', 5), (b'D', 5)],
             ),
-            done(Act::Alarm(1, false), b"", &[]),
+            done(Call::Alarm(1, false), "", &[]),
             // S5,F1 W: ALCD 132, alarm 1
             done(
-                Act::Pump,
-                b"00000017 0007 8501 0000 00000004 0103 210184 b10400000001 4100",
+                Call::Pump,
+                "00000017 0007 8501 0000 00000004 0103 210184 b10400000001 4100",
                 &[],
             ),
         ],
@@ -79,36 +78,35 @@ fn clear_alarm(rt: HostRuntime) -> Result<(), Fail> {
 fn cleared_report(rt: HostRuntime) -> Result<(), Fail> {
     let counts = run(
         &rt,
-        rt.alloc(),
         SETTINGS,
         Stage::Communicating,
         &[
-            done(Act::Alarm(32, true), b"", &[]),
+            done(Call::Alarm(32, true), "", &[]),
             // ONLINE; S1,F1 W
-            done(Act::Switch(3), b"0000000a 0007 8101 0000 00000002", &[]),
+            done(Call::Switch(3), "0000000a 0007 8101 0000 00000002", &[]),
             // the host's S1,F2
-            done(Act::Host(b"0007 0102 0000 00000002"), b"", &[(b'M', 1)]),
+            done(Act::Frame("0007 0102 0000 00000002"), "", &[(b'M', 1)]),
             // S6,F11 W: report 1, event 3
             done(
-                Act::Pump,
-                b"0000001a 0007 860b 0000 00000003 0103 b10400000001 b10400000003 0100",
+                Call::Pump,
+                "0000001a 0007 860b 0000 00000003 0103 b10400000001 b10400000003 0100",
                 &[],
             ),
             // the host's S6,F12
-            done(Act::Host(b"0007 060c 0000 00000003"), b"", &[(b'A', 1)]),
-            done(Act::Alarm(32, false), b"", &[(b'M', 2), (b'M', 3)]),
+            done(Act::Frame("0007 060c 0000 00000003"), "", &[(b'A', 1)]),
+            done(Call::Alarm(32, false), "", &[(b'M', 2), (b'M', 3)]),
             // S5,F1 W: ALCD 127, alarm 32
             done(
-                Act::Pump,
-                b"00000017 0007 8501 0000 00000004 0103 21017f b10400000020 4100",
+                Call::Pump,
+                "00000017 0007 8501 0000 00000004 0103 21017f b10400000020 4100",
                 &[],
             ),
             // the host's S5,F2
-            done(Act::Host(b"0007 0502 0000 00000004"), b"", &[(b'A', 2)]),
+            done(Act::Frame("0007 0502 0000 00000004"), "", &[(b'A', 2)]),
             // S6,F11 W: report 3, event 232
             done(
-                Act::Pump,
-                b"0000001a 0007 860b 0000 00000005 0103 b10400000003 b104000000e8 0100",
+                Call::Pump,
+                "0000001a 0007 860b 0000 00000005 0103 b10400000003 b104000000e8 0100",
                 &[],
             ),
         ],
@@ -122,23 +120,22 @@ fn cleared_report(rt: HostRuntime) -> Result<(), Fail> {
 fn greatest_alarm(rt: HostRuntime) -> Result<(), Fail> {
     let counts = run(
         &rt,
-        rt.alloc(),
         SETTINGS,
         Stage::Ready,
         &[
-            done(Act::Alarm(32, true), b"", &[(b'M', 2), (b'M', 3)]),
+            done(Call::Alarm(32, true), "", &[(b'M', 2), (b'M', 3)]),
             // S5,F1 W: ALCD 255, alarm 32
             done(
-                Act::Pump,
-                b"00000017 0007 8501 0000 00000004 0103 2101ff b10400000020 4100",
+                Call::Pump,
+                "00000017 0007 8501 0000 00000004 0103 2101ff b10400000020 4100",
                 &[],
             ),
             // the host's S5,F2
-            done(Act::Host(b"0007 0502 0000 00000004"), b"", &[(b'A', 2)]),
+            done(Act::Frame("0007 0502 0000 00000004"), "", &[(b'A', 2)]),
             // S6,F11 W: report 3, event 132
             done(
-                Act::Pump,
-                b"0000001a 0007 860b 0000 00000005 0103 b10400000003 b10400000084 0100",
+                Call::Pump,
+                "0000001a 0007 860b 0000 00000005 0103 b10400000003 b10400000084 0100",
                 &[],
             ),
         ],
@@ -152,30 +149,29 @@ fn greatest_alarm(rt: HostRuntime) -> Result<(), Fail> {
 fn disabled_alarm(rt: HostRuntime) -> Result<(), Fail> {
     let counts = run(
         &rt,
-        rt.alloc(),
         SETTINGS,
         Stage::Ready,
         &[
             // the host's S5,F3 W; S5,F4: B 0
             done(
-                Act::Host(b"0007 8503 0000 000000aa 0102 21017f b10400000001"),
-                b"0000000d 0007 0504 0000 000000aa 210100",
+                Act::Frame("0007 8503 0000 000000aa 0102 21017f b10400000001"),
+                "0000000d 0007 0504 0000 000000aa 210100",
                 &[],
             ),
-            done(Act::Alarm(1, true), b"", &[(b'M', 2)]),
+            done(Call::Alarm(1, true), "", &[(b'M', 2)]),
             // S6,F11 W: report 2, event 101
             done(
-                Act::Pump,
-                b"0000001a 0007 860b 0000 00000004 0103 b10400000002 b10400000065 0100",
+                Call::Pump,
+                "0000001a 0007 860b 0000 00000004 0103 b10400000002 b10400000065 0100",
                 &[],
             ),
             // the host's S6,F12
-            done(Act::Host(b"0007 060c 0000 00000004"), b"", &[(b'A', 2)]),
-            done(Act::Alarm(32, true), b"", &[(b'M', 3), (b'M', 4)]),
+            done(Act::Frame("0007 060c 0000 00000004"), "", &[(b'A', 2)]),
+            done(Call::Alarm(32, true), "", &[(b'M', 3), (b'M', 4)]),
             // S5,F1 W: ALCD 255, alarm 32
             done(
-                Act::Pump,
-                b"00000017 0007 8501 0000 00000005 0103 2101ff b10400000020 4100",
+                Call::Pump,
+                "00000017 0007 8501 0000 00000005 0103 2101ff b10400000020 4100",
                 &[],
             ),
         ],
@@ -189,27 +185,26 @@ fn disabled_alarm(rt: HostRuntime) -> Result<(), Fail> {
 fn enabled_again(rt: HostRuntime) -> Result<(), Fail> {
     let counts = run(
         &rt,
-        rt.alloc(),
         SETTINGS,
         Stage::Ready,
         &[
             // the host's S5,F3 W; S5,F4: B 0
             done(
-                Act::Host(b"0007 8503 0000 000000aa 0102 210100 b10400000001"),
-                b"0000000d 0007 0504 0000 000000aa 210100",
+                Act::Frame("0007 8503 0000 000000aa 0102 210100 b10400000001"),
+                "0000000d 0007 0504 0000 000000aa 210100",
                 &[],
             ),
             // the host's S5,F3
             done(
-                Act::Host(b"0007 0503 0000 000000aa 0102 210180 b10400000001"),
-                b"",
+                Act::Frame("0007 0503 0000 000000aa 0102 210180 b10400000001"),
+                "",
                 &[],
             ),
-            done(Act::Alarm(1, true), b"", &[(b'M', 2), (b'M', 3)]),
+            done(Call::Alarm(1, true), "", &[(b'M', 2), (b'M', 3)]),
             // S5,F1 W: ALCD 132, alarm 1
             done(
-                Act::Pump,
-                b"00000017 0007 8501 0000 00000004 0103 210184 b10400000001 4100",
+                Call::Pump,
+                "00000017 0007 8501 0000 00000004 0103 210184 b10400000001 4100",
                 &[],
             ),
         ],
@@ -223,32 +218,31 @@ fn enabled_again(rt: HostRuntime) -> Result<(), Fail> {
 fn unknown_alarm(rt: HostRuntime) -> Result<(), Fail> {
     let counts = run(
         &rt,
-        rt.alloc(),
         SETTINGS,
         Stage::Ready,
         &[
             // the host's S5,F3 W; S5,F4: B 1
             done(
-                Act::Host(b"0007 8503 0000 000000aa 0102 210180 b10400000002"),
-                b"0000000d 0007 0504 0000 000000aa 210101",
+                Act::Frame("0007 8503 0000 000000aa 0102 210180 b10400000002"),
+                "0000000d 0007 0504 0000 000000aa 210101",
                 &[],
             ),
             // the host's S5,F3 W; S5,F4: B 1
             done(
-                Act::Host(b"0007 8503 0000 000000aa 0102 210100 b10400000000"),
-                b"0000000d 0007 0504 0000 000000aa 210101",
+                Act::Frame("0007 8503 0000 000000aa 0102 210100 b10400000000"),
+                "0000000d 0007 0504 0000 000000aa 210101",
                 &[],
             ),
             // the host's S5,F3 W; S5,F4: B 1
             done(
-                Act::Host(b"0007 8503 0000 000000aa 0102 210100 b10400000021"),
-                b"0000000d 0007 0504 0000 000000aa 210101",
+                Act::Frame("0007 8503 0000 000000aa 0102 210100 b10400000021"),
+                "0000000d 0007 0504 0000 000000aa 210101",
                 &[],
             ),
             // the host's S5,F3 W; S5,F4: B 1
             done(
-                Act::Host(b"0007 8503 0000 000000aa 0102 210100 b104ffffffff"),
-                b"0000000d 0007 0504 0000 000000aa 210101",
+                Act::Frame("0007 8503 0000 000000aa 0102 210100 b104ffffffff"),
+                "0000000d 0007 0504 0000 000000aa 210101",
                 &[],
             ),
         ],
@@ -262,24 +256,23 @@ fn unknown_alarm(rt: HostRuntime) -> Result<(), Fail> {
 fn samples_of_bands(rt: HostRuntime) -> Result<(), Fail> {
     let counts = run(
         &rt,
-        rt.alloc(),
         SETTINGS,
         Stage::Ready,
         &[
-            done(Act::Sample(1, Sample::Whole(16)), b"", &[]),
-            done(Act::Sample(1, Sample::Whole(20)), b"", &[(b'M', 2)]),
-            done(Act::Sample(1, Sample::Whole(25)), b"", &[]),
+            done(Call::Sample(1, Sample::Whole(16)), "", &[]),
+            done(Call::Sample(1, Sample::Whole(20)), "", &[(b'M', 2)]),
+            done(Call::Sample(1, Sample::Whole(25)), "", &[]),
             // S6,F11 W: report 2, event 301
             done(
-                Act::Pump,
-                b"0000001a 0007 860b 0000 00000004 0103 b10400000002 b1040000012d 0100",
+                Call::Pump,
+                "0000001a 0007 860b 0000 00000004 0103 b10400000002 b1040000012d 0100",
                 &[],
             ),
             // the host's S6,F12
-            done(Act::Host(b"0007 060c 0000 00000004"), b"", &[(b'A', 2)]),
-            done(Act::Sample(1, Sample::Whole(12)), b"", &[(b'M', 3)]),
-            done(Act::Sample(1, Sample::Whole(12)), b"", &[]),
-            done(Act::Sample(1, Sample::Whole(10)), b"", &[(b'M', 4)]),
+            done(Act::Frame("0007 060c 0000 00000004"), "", &[(b'A', 2)]),
+            done(Call::Sample(1, Sample::Whole(12)), "", &[(b'M', 3)]),
+            done(Call::Sample(1, Sample::Whole(12)), "", &[]),
+            done(Call::Sample(1, Sample::Whole(10)), "", &[(b'M', 4)]),
         ],
     )?;
     assert_eq!(rt; counts, (2, 0));
@@ -291,18 +284,17 @@ fn samples_of_bands(rt: HostRuntime) -> Result<(), Fail> {
 fn samples_of_a_real(rt: HostRuntime) -> Result<(), Fail> {
     let counts = run(
         &rt,
-        rt.alloc(),
         SETTINGS,
         Stage::Ready,
         &[
-            done(Act::Sample(2, Sample::Real(1.0)), b"", &[]),
-            done(Act::Sample(2, Sample::Real(1.5)), b"", &[(b'M', 2)]),
-            done(Act::Sample(2, Sample::Real(1.0)), b"", &[]),
-            done(Act::Sample(2, Sample::Real(0.5)), b"", &[(b'M', 3)]),
+            done(Call::Sample(2, Sample::Real(1.0)), "", &[]),
+            done(Call::Sample(2, Sample::Real(1.5)), "", &[(b'M', 2)]),
+            done(Call::Sample(2, Sample::Real(1.0)), "", &[]),
+            done(Call::Sample(2, Sample::Real(0.5)), "", &[(b'M', 3)]),
             // S6,F11 W: report 2, event 302
             done(
-                Act::Pump,
-                b"0000001a 0007 860b 0000 00000004 0103 b10400000002 b1040000012e 0100",
+                Call::Pump,
+                "0000001a 0007 860b 0000 00000004 0103 b10400000002 b1040000012e 0100",
                 &[],
             ),
         ],
@@ -316,19 +308,18 @@ fn samples_of_a_real(rt: HostRuntime) -> Result<(), Fail> {
 fn samples_offline(rt: HostRuntime) -> Result<(), Fail> {
     let counts = run(
         &rt,
-        rt.alloc(),
         SETTINGS,
         Stage::Communicating,
         &[
-            done(Act::Sample(1, Sample::Whole(20)), b"", &[]),
-            done(Act::Alarm(1, true), b"", &[]),
+            done(Call::Sample(1, Sample::Whole(20)), "", &[]),
+            done(Call::Alarm(1, true), "", &[]),
             // ONLINE; S1,F1 W
-            done(Act::Switch(3), b"0000000a 0007 8101 0000 00000002", &[]),
+            done(Call::Switch(3), "0000000a 0007 8101 0000 00000002", &[]),
             // the host's S1,F2
-            done(Act::Host(b"0007 0102 0000 00000002"), b"", &[(b'M', 1)]),
-            done(Act::Sample(1, Sample::Whole(20)), b"", &[]),
-            done(Act::Alarm(1, true), b"", &[]),
-            done(Act::Sample(1, Sample::Whole(10)), b"", &[(b'M', 2)]),
+            done(Act::Frame("0007 0102 0000 00000002"), "", &[(b'M', 1)]),
+            done(Call::Sample(1, Sample::Whole(20)), "", &[]),
+            done(Call::Alarm(1, true), "", &[]),
+            done(Call::Sample(1, Sample::Whole(10)), "", &[(b'M', 2)]),
         ],
     )?;
     assert_eq!(rt; counts, (2, 0));

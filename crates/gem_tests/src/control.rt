@@ -1,5 +1,6 @@
 // The control state.
 use crate::driver::{Act, HOST_FALLBACK, SETTINGS, Stage, done, run};
+use gem::equipment::Call;
 use std::test::Fail;
 
 // ONLINE while not COMMUNICATING, fallback EQUIPMENT OFF-LINE: S1,F17 is denied then.
@@ -7,24 +8,23 @@ use std::test::Fail;
 fn online_without_communication(rt: HostRuntime) -> Result<(), Fail> {
     let counts = run(
         &rt,
-        rt.alloc(),
         SETTINGS,
         Stage::Started,
         &[
             // ONLINE
-            done(Act::Switch(3), b"", &[]),
+            done(Call::Switch(3), "", &[]),
             // ENABLE; S1,F13 W
             done(
-                Act::Switch(1),
-                b"0000001c 0007 810d 0000 00000001 0102 4106 42454e434831 4106 303030303031",
+                Call::Switch(1),
+                "0000001c 0007 810d 0000 00000001 0102 4106 42454e434831 4106 303030303031",
                 &[],
             ),
             // the host's S1,F14
-            done(Act::Host(b"0007 010e 0000 00000001 0102 210100"), b"", &[]),
+            done(Act::Frame("0007 010e 0000 00000001 0102 210100"), "", &[]),
             // the host's S1,F17 W; S1,F18: B 1
             done(
-                Act::Host(b"0007 8111 0000 000000aa"),
-                b"0000000d 0007 0112 0000 000000aa 210101",
+                Act::Frame("0007 8111 0000 000000aa"),
+                "0000000d 0007 0112 0000 000000aa 210101",
                 &[],
             ),
         ],
@@ -38,24 +38,23 @@ fn online_without_communication(rt: HostRuntime) -> Result<(), Fail> {
 fn online_to_host_offline(rt: HostRuntime) -> Result<(), Fail> {
     let counts = run(
         &rt,
-        rt.alloc(),
         HOST_FALLBACK,
         Stage::Started,
         &[
             // ONLINE
-            done(Act::Switch(3), b"", &[]),
+            done(Call::Switch(3), "", &[]),
             // ENABLE; S1,F13 W
             done(
-                Act::Switch(1),
-                b"0000001c 0007 810d 0000 00000001 0102 4106 42454e434831 4106 303030303031",
+                Call::Switch(1),
+                "0000001c 0007 810d 0000 00000001 0102 4106 42454e434831 4106 303030303031",
                 &[],
             ),
             // the host's S1,F14
-            done(Act::Host(b"0007 010e 0000 00000001 0102 210100"), b"", &[]),
+            done(Act::Frame("0007 010e 0000 00000001 0102 210100"), "", &[]),
             // the host's S1,F17 W; S1,F18: B 0
             done(
-                Act::Host(b"0007 8111 0000 000000aa"),
-                b"0000000d 0007 0112 0000 000000aa 210100",
+                Act::Frame("0007 8111 0000 000000aa"),
+                "0000000d 0007 0112 0000 000000aa 210100",
                 &[(b'M', 1)],
             ),
         ],
@@ -69,20 +68,19 @@ fn online_to_host_offline(rt: HostRuntime) -> Result<(), Fail> {
 fn attempt_ends_local(rt: HostRuntime) -> Result<(), Fail> {
     let counts = run(
         &rt,
-        rt.alloc(),
         SETTINGS,
         Stage::Communicating,
         &[
             // LOCAL
-            done(Act::Switch(5), b"", &[]),
+            done(Call::Switch(5), "", &[]),
             // ONLINE; S1,F1 W
-            done(Act::Switch(3), b"0000000a 0007 8101 0000 00000002", &[]),
+            done(Call::Switch(3), "0000000a 0007 8101 0000 00000002", &[]),
             // the host's S1,F2
-            done(Act::Host(b"0007 0102 0000 00000002"), b"", &[(b'M', 1)]),
+            done(Act::Frame("0007 0102 0000 00000002"), "", &[(b'M', 1)]),
             // S6,F11 W: report 1, event 2
             done(
-                Act::Pump,
-                b"0000001a 0007 860b 0000 00000003 0103 b10400000001 b10400000002 0100",
+                Call::Pump,
+                "0000001a 0007 860b 0000 00000003 0103 b10400000001 b10400000002 0100",
                 &[],
             ),
         ],
@@ -96,35 +94,34 @@ fn attempt_ends_local(rt: HostRuntime) -> Result<(), Fail> {
 fn attempt_is_left_by_its_answer_only(rt: HostRuntime) -> Result<(), Fail> {
     let counts = run(
         &rt,
-        rt.alloc(),
         SETTINGS,
         Stage::Communicating,
         &[
             // ONLINE; S1,F1 W
-            done(Act::Switch(3), b"0000000a 0007 8101 0000 00000002", &[]),
+            done(Call::Switch(3), "0000000a 0007 8101 0000 00000002", &[]),
             // ONLINE
-            done(Act::Switch(3), b"", &[]),
+            done(Call::Switch(3), "", &[]),
             // OFFLINE
-            done(Act::Switch(4), b"", &[]),
-            done(Act::Expiry(1), b"", &[]),
+            done(Call::Switch(4), "", &[]),
+            done(Call::Expiry(1), "", &[]),
             // the host's S1,F1 W; S1,F0
             done(
-                Act::Host(b"0007 8101 0000 000000aa"),
-                b"0000000a 0007 0100 0000 000000aa",
+                Act::Frame("0007 8101 0000 000000aa"),
+                "0000000a 0007 0100 0000 000000aa",
                 &[],
             ),
             // the host's S1,F17 W; S1,F18: B 1
             done(
-                Act::Host(b"0007 8111 0000 000000aa"),
-                b"0000000d 0007 0112 0000 000000aa 210101",
+                Act::Frame("0007 8111 0000 000000aa"),
+                "0000000d 0007 0112 0000 000000aa 210101",
                 &[],
             ),
             // the host's S1,F2
-            done(Act::Host(b"0007 0102 0000 00000001"), b"", &[]),
+            done(Act::Frame("0007 0102 0000 00000001"), "", &[]),
             // the host's S1,F2
-            done(Act::Host(b"0007 0102 0000 00000002"), b"", &[(b'M', 1)]),
+            done(Act::Frame("0007 0102 0000 00000002"), "", &[(b'M', 1)]),
             // ONLINE
-            done(Act::Switch(3), b"", &[]),
+            done(Call::Switch(3), "", &[]),
         ],
     )?;
     assert_eq!(rt; counts, (1, 0));
@@ -136,18 +133,17 @@ fn attempt_is_left_by_its_answer_only(rt: HostRuntime) -> Result<(), Fail> {
 fn attempt_refused(rt: HostRuntime) -> Result<(), Fail> {
     let counts = run(
         &rt,
-        rt.alloc(),
         SETTINGS,
         Stage::Communicating,
         &[
             // ONLINE; S1,F1 W
-            done(Act::Switch(3), b"0000000a 0007 8101 0000 00000002", &[]),
+            done(Call::Switch(3), "0000000a 0007 8101 0000 00000002", &[]),
             // the host's S1,F0
-            done(Act::Host(b"0007 0100 0000 00000002"), b"", &[]),
+            done(Act::Frame("0007 0100 0000 00000002"), "", &[]),
             // the host's S1,F2
-            done(Act::Host(b"0007 0102 0000 00000002"), b"", &[]),
+            done(Act::Frame("0007 0102 0000 00000002"), "", &[]),
             // ONLINE; S1,F1 W
-            done(Act::Switch(3), b"0000000a 0007 8101 0000 00000003", &[]),
+            done(Call::Switch(3), "0000000a 0007 8101 0000 00000003", &[]),
         ],
     )?;
     assert_eq!(rt; counts, (0, 0));
@@ -159,20 +155,19 @@ fn attempt_refused(rt: HostRuntime) -> Result<(), Fail> {
 fn attempt_refused_to_host_offline(rt: HostRuntime) -> Result<(), Fail> {
     let counts = run(
         &rt,
-        rt.alloc(),
         HOST_FALLBACK,
         Stage::Communicating,
         &[
             // ONLINE; S1,F1 W
-            done(Act::Switch(3), b"0000000a 0007 8101 0000 00000002", &[]),
+            done(Call::Switch(3), "0000000a 0007 8101 0000 00000002", &[]),
             // the host's S1,F0
-            done(Act::Host(b"0007 0100 0000 00000002"), b"", &[]),
+            done(Act::Frame("0007 0100 0000 00000002"), "", &[]),
             // ONLINE
-            done(Act::Switch(3), b"", &[]),
+            done(Call::Switch(3), "", &[]),
             // the host's S1,F17 W; S1,F18: B 0
             done(
-                Act::Host(b"0007 8111 0000 000000aa"),
-                b"0000000d 0007 0112 0000 000000aa 210100",
+                Act::Frame("0007 8111 0000 000000aa"),
+                "0000000d 0007 0112 0000 000000aa 210100",
                 &[(b'M', 1)],
             ),
         ],
@@ -186,21 +181,20 @@ fn attempt_refused_to_host_offline(rt: HostRuntime) -> Result<(), Fail> {
 fn attempt_expires(rt: HostRuntime) -> Result<(), Fail> {
     let counts = run(
         &rt,
-        rt.alloc(),
         SETTINGS,
         Stage::Communicating,
         &[
             // ONLINE; S1,F1 W
-            done(Act::Switch(3), b"0000000a 0007 8101 0000 00000002", &[]),
-            done(Act::Expiry(2), b"", &[]),
+            done(Call::Switch(3), "0000000a 0007 8101 0000 00000002", &[]),
+            done(Call::Expiry(2), "", &[]),
             // the host's S1,F2
-            done(Act::Host(b"0007 0102 0000 00000002"), b"", &[]),
+            done(Act::Frame("0007 0102 0000 00000002"), "", &[]),
             // ONLINE; S1,F1 W
-            done(Act::Switch(3), b"0000000a 0007 8101 0000 00000003", &[]),
+            done(Call::Switch(3), "0000000a 0007 8101 0000 00000003", &[]),
             // the host's S1,F2
-            done(Act::Host(b"0007 0102 0000 00000002"), b"", &[]),
+            done(Act::Frame("0007 0102 0000 00000002"), "", &[]),
             // the host's S1,F2
-            done(Act::Host(b"0007 0102 0000 00000003"), b"", &[(b'M', 1)]),
+            done(Act::Frame("0007 0102 0000 00000003"), "", &[(b'M', 1)]),
         ],
     )?;
     assert_eq!(rt; counts, (1, 0));
@@ -212,19 +206,18 @@ fn attempt_expires(rt: HostRuntime) -> Result<(), Fail> {
 fn attempt_expires_to_host_offline(rt: HostRuntime) -> Result<(), Fail> {
     let counts = run(
         &rt,
-        rt.alloc(),
         HOST_FALLBACK,
         Stage::Communicating,
         &[
             // ONLINE; S1,F1 W
-            done(Act::Switch(3), b"0000000a 0007 8101 0000 00000002", &[]),
-            done(Act::Expiry(2), b"", &[]),
+            done(Call::Switch(3), "0000000a 0007 8101 0000 00000002", &[]),
+            done(Call::Expiry(2), "", &[]),
             // ONLINE
-            done(Act::Switch(3), b"", &[]),
+            done(Call::Switch(3), "", &[]),
             // the host's S1,F17 W; S1,F18: B 0
             done(
-                Act::Host(b"0007 8111 0000 000000aa"),
-                b"0000000d 0007 0112 0000 000000aa 210100",
+                Act::Frame("0007 8111 0000 000000aa"),
+                "0000000d 0007 0112 0000 000000aa 210100",
                 &[(b'M', 1)],
             ),
         ],
@@ -238,26 +231,25 @@ fn attempt_expires_to_host_offline(rt: HostRuntime) -> Result<(), Fail> {
 fn attempt_fails(rt: HostRuntime) -> Result<(), Fail> {
     let counts = run(
         &rt,
-        rt.alloc(),
         HOST_FALLBACK,
         Stage::Communicating,
         &[
             // ONLINE; S1,F1 W
-            done(Act::Switch(3), b"0000000a 0007 8101 0000 00000002", &[]),
+            done(Call::Switch(3), "0000000a 0007 8101 0000 00000002", &[]),
             // S1,F13 W
             done(
-                Act::Failure,
-                b"0000001c 0007 810d 0000 00000003 0102 4106 42454e434831 4106 303030303031",
+                Call::Failure,
+                "0000001c 0007 810d 0000 00000003 0102 4106 42454e434831 4106 303030303031",
                 &[],
             ),
             // the host's S1,F2
-            done(Act::Host(b"0007 0102 0000 00000002"), b"", &[]),
+            done(Act::Frame("0007 0102 0000 00000002"), "", &[]),
             // the host's S1,F14
-            done(Act::Host(b"0007 010e 0000 00000003 0102 210100"), b"", &[]),
+            done(Act::Frame("0007 010e 0000 00000003 0102 210100"), "", &[]),
             // the host's S1,F17 W; S1,F18: B 0
             done(
-                Act::Host(b"0007 8111 0000 000000aa"),
-                b"0000000d 0007 0112 0000 000000aa 210100",
+                Act::Frame("0007 8111 0000 000000aa"),
+                "0000000d 0007 0112 0000 000000aa 210100",
                 &[(b'M', 1)],
             ),
         ],
@@ -271,24 +263,23 @@ fn attempt_fails(rt: HostRuntime) -> Result<(), Fail> {
 fn attempt_is_disabled(rt: HostRuntime) -> Result<(), Fail> {
     let counts = run(
         &rt,
-        rt.alloc(),
         SETTINGS,
         Stage::Communicating,
         &[
             // ONLINE; S1,F1 W
-            done(Act::Switch(3), b"0000000a 0007 8101 0000 00000002", &[]),
+            done(Call::Switch(3), "0000000a 0007 8101 0000 00000002", &[]),
             // DISABLE
-            done(Act::Switch(2), b"", &[]),
+            done(Call::Switch(2), "", &[]),
             // ENABLE; S1,F13 W
             done(
-                Act::Switch(1),
-                b"0000001c 0007 810d 0000 00000003 0102 4106 42454e434831 4106 303030303031",
+                Call::Switch(1),
+                "0000001c 0007 810d 0000 00000003 0102 4106 42454e434831 4106 303030303031",
                 &[],
             ),
             // the host's S1,F14
-            done(Act::Host(b"0007 010e 0000 00000003 0102 210100"), b"", &[]),
+            done(Act::Frame("0007 010e 0000 00000003 0102 210100"), "", &[]),
             // ONLINE; S1,F1 W
-            done(Act::Switch(3), b"0000000a 0007 8101 0000 00000004", &[]),
+            done(Call::Switch(3), "0000000a 0007 8101 0000 00000004", &[]),
         ],
     )?;
     assert_eq!(rt; counts, (0, 0));
@@ -300,29 +291,28 @@ fn attempt_is_disabled(rt: HostRuntime) -> Result<(), Fail> {
 fn operator_goes_offline(rt: HostRuntime) -> Result<(), Fail> {
     let counts = run(
         &rt,
-        rt.alloc(),
         SETTINGS,
         Stage::Ready,
         &[
             // OFFLINE
-            done(Act::Switch(4), b"", &[(b'M', 2)]),
-            done(Act::Pump, b"", &[]),
+            done(Call::Switch(4), "", &[(b'M', 2)]),
+            done(Call::Pump, "", &[]),
             // the host's S1,F17 W; S1,F18: B 1
             done(
-                Act::Host(b"0007 8111 0000 000000aa"),
-                b"0000000d 0007 0112 0000 000000aa 210101",
+                Act::Frame("0007 8111 0000 000000aa"),
+                "0000000d 0007 0112 0000 000000aa 210101",
                 &[],
             ),
             // OFFLINE
-            done(Act::Switch(4), b"", &[]),
+            done(Call::Switch(4), "", &[]),
             // ONLINE; S1,F1 W
-            done(Act::Switch(3), b"0000000a 0007 8101 0000 00000004", &[]),
+            done(Call::Switch(3), "0000000a 0007 8101 0000 00000004", &[]),
             // the host's S1,F2
-            done(Act::Host(b"0007 0102 0000 00000004"), b"", &[(b'M', 3)]),
+            done(Act::Frame("0007 0102 0000 00000004"), "", &[(b'M', 3)]),
             // S6,F11 W: report 2, event 1
             done(
-                Act::Pump,
-                b"0000001a 0007 860b 0000 00000005 0103 b10400000002 b10400000001 0100",
+                Call::Pump,
+                "0000001a 0007 860b 0000 00000005 0103 b10400000002 b10400000001 0100",
                 &[],
             ),
         ],
@@ -336,28 +326,27 @@ fn operator_goes_offline(rt: HostRuntime) -> Result<(), Fail> {
 fn host_takes_offline(rt: HostRuntime) -> Result<(), Fail> {
     let counts = run(
         &rt,
-        rt.alloc(),
         SETTINGS,
         Stage::Ready,
         &[
             // the host's S1,F15 W; S1,F16: B 0
             done(
-                Act::Host(b"0007 810f 0000 000000aa"),
-                b"0000000d 0007 0110 0000 000000aa 210100",
+                Act::Frame("0007 810f 0000 000000aa"),
+                "0000000d 0007 0110 0000 000000aa 210100",
                 &[(b'M', 2)],
             ),
             // the host's S1,F15 W; S1,F0
             done(
-                Act::Host(b"0007 810f 0000 000000aa"),
-                b"0000000a 0007 0100 0000 000000aa",
+                Act::Frame("0007 810f 0000 000000aa"),
+                "0000000a 0007 0100 0000 000000aa",
                 &[],
             ),
             // OFFLINE
-            done(Act::Switch(4), b"", &[]),
+            done(Call::Switch(4), "", &[]),
             // the host's S1,F17 W; S1,F18: B 1
             done(
-                Act::Host(b"0007 8111 0000 000000aa"),
-                b"0000000d 0007 0112 0000 000000aa 210101",
+                Act::Frame("0007 8111 0000 000000aa"),
+                "0000000d 0007 0112 0000 000000aa 210101",
                 &[],
             ),
         ],
@@ -371,26 +360,25 @@ fn host_takes_offline(rt: HostRuntime) -> Result<(), Fail> {
 fn host_takes_offline_and_online(rt: HostRuntime) -> Result<(), Fail> {
     let counts = run(
         &rt,
-        rt.alloc(),
         SETTINGS,
         Stage::Ready,
         &[
             // the host's S1,F15
-            done(Act::Host(b"0007 010f 0000 000000aa"), b"", &[(b'M', 2)]),
+            done(Act::Frame("0007 010f 0000 000000aa"), "", &[(b'M', 2)]),
             // the host's S1,F17
-            done(Act::Host(b"0007 0111 0000 000000aa"), b"", &[(b'M', 3)]),
+            done(Act::Frame("0007 0111 0000 000000aa"), "", &[(b'M', 3)]),
             // S6,F11 W: report 2, event 1
             done(
-                Act::Pump,
-                b"0000001a 0007 860b 0000 00000004 0103 b10400000002 b10400000001 0100",
+                Call::Pump,
+                "0000001a 0007 860b 0000 00000004 0103 b10400000002 b10400000001 0100",
                 &[],
             ),
             // the host's S6,F12
-            done(Act::Host(b"0007 060c 0000 00000004"), b"", &[(b'A', 2)]),
+            done(Act::Frame("0007 060c 0000 00000004"), "", &[(b'A', 2)]),
             // S6,F11 W: report 3, event 3
             done(
-                Act::Pump,
-                b"0000001a 0007 860b 0000 00000005 0103 b10400000003 b10400000003 0100",
+                Call::Pump,
+                "0000001a 0007 860b 0000 00000005 0103 b10400000003 b10400000003 0100",
                 &[],
             ),
         ],
@@ -404,20 +392,19 @@ fn host_takes_offline_and_online(rt: HostRuntime) -> Result<(), Fail> {
 fn host_asks_online_again(rt: HostRuntime) -> Result<(), Fail> {
     let counts = run(
         &rt,
-        rt.alloc(),
         SETTINGS,
         Stage::Ready,
         &[
             // the host's S1,F17 W; S1,F18: B 2
             done(
-                Act::Host(b"0007 8111 0000 000000aa"),
-                b"0000000d 0007 0112 0000 000000aa 210102",
+                Act::Frame("0007 8111 0000 000000aa"),
+                "0000000d 0007 0112 0000 000000aa 210102",
                 &[],
             ),
             // the host's S1,F17
-            done(Act::Host(b"0007 0111 0000 000000aa"), b"", &[]),
+            done(Act::Frame("0007 0111 0000 000000aa"), "", &[]),
             // ONLINE
-            done(Act::Switch(3), b"", &[]),
+            done(Call::Switch(3), "", &[]),
         ],
     )?;
     assert_eq!(rt; counts, (0, 0));
@@ -429,30 +416,29 @@ fn host_asks_online_again(rt: HostRuntime) -> Result<(), Fail> {
 fn local_and_remote(rt: HostRuntime) -> Result<(), Fail> {
     let counts = run(
         &rt,
-        rt.alloc(),
         SETTINGS,
         Stage::Ready,
         &[
             // REMOTE
-            done(Act::Switch(6), b"", &[]),
+            done(Call::Switch(6), "", &[]),
             // LOCAL
-            done(Act::Switch(5), b"", &[(b'M', 2)]),
+            done(Call::Switch(5), "", &[(b'M', 2)]),
             // LOCAL
-            done(Act::Switch(5), b"", &[]),
+            done(Call::Switch(5), "", &[]),
             // REMOTE
-            done(Act::Switch(6), b"", &[(b'M', 3)]),
+            done(Call::Switch(6), "", &[(b'M', 3)]),
             // S6,F11 W: report 2, event 2
             done(
-                Act::Pump,
-                b"0000001a 0007 860b 0000 00000004 0103 b10400000002 b10400000002 0100",
+                Call::Pump,
+                "0000001a 0007 860b 0000 00000004 0103 b10400000002 b10400000002 0100",
                 &[],
             ),
             // the host's S6,F12
-            done(Act::Host(b"0007 060c 0000 00000004"), b"", &[(b'A', 2)]),
+            done(Act::Frame("0007 060c 0000 00000004"), "", &[(b'A', 2)]),
             // S6,F11 W: report 3, event 3
             done(
-                Act::Pump,
-                b"0000001a 0007 860b 0000 00000005 0103 b10400000003 b10400000003 0100",
+                Call::Pump,
+                "0000001a 0007 860b 0000 00000005 0103 b10400000003 b10400000003 0100",
                 &[],
             ),
         ],
@@ -466,30 +452,29 @@ fn local_and_remote(rt: HostRuntime) -> Result<(), Fail> {
 fn switch_is_remembered(rt: HostRuntime) -> Result<(), Fail> {
     let counts = run(
         &rt,
-        rt.alloc(),
         SETTINGS,
         Stage::Ready,
         &[
             // the host's S1,F15
-            done(Act::Host(b"0007 010f 0000 000000aa"), b"", &[(b'M', 2)]),
+            done(Act::Frame("0007 010f 0000 000000aa"), "", &[(b'M', 2)]),
             // LOCAL
-            done(Act::Switch(5), b"", &[]),
+            done(Call::Switch(5), "", &[]),
             // the host's S1,F17
-            done(Act::Host(b"0007 0111 0000 000000aa"), b"", &[(b'M', 3)]),
+            done(Act::Frame("0007 0111 0000 000000aa"), "", &[(b'M', 3)]),
             // LOCAL
-            done(Act::Switch(5), b"", &[]),
+            done(Call::Switch(5), "", &[]),
             // S6,F11 W: report 2, event 1
             done(
-                Act::Pump,
-                b"0000001a 0007 860b 0000 00000004 0103 b10400000002 b10400000001 0100",
+                Call::Pump,
+                "0000001a 0007 860b 0000 00000004 0103 b10400000002 b10400000001 0100",
                 &[],
             ),
             // the host's S6,F12
-            done(Act::Host(b"0007 060c 0000 00000004"), b"", &[(b'A', 2)]),
+            done(Act::Frame("0007 060c 0000 00000004"), "", &[(b'A', 2)]),
             // S6,F11 W: report 3, event 2
             done(
-                Act::Pump,
-                b"0000001a 0007 860b 0000 00000005 0103 b10400000003 b10400000002 0100",
+                Call::Pump,
+                "0000001a 0007 860b 0000 00000005 0103 b10400000003 b10400000002 0100",
                 &[],
             ),
         ],

@@ -1,5 +1,5 @@
 // Runs an equipment step by step and holds each call's whole answer to what the step expects.
-use gem::equipment::Equipment;
+use gem::equipment::{Call, Equipment};
 use lines::line::{Letter, Line};
 use setup::plan::Setup;
 use setup::settings::Settings;
@@ -10,162 +10,106 @@ use std::test::Fail;
 use store::Store;
 use store::record::Record;
 use store::ring::Ring;
-use zone::variable::{Bounds, Kind, Sample};
+use zone::variable::{Bounds, Kind};
 
-// A call; the frame of the host is given in hex.
+// What a step does.
 #[derive(Clone, Copy)]
 pub(crate) enum Act<'a> {
-    Host(&'a [u8]),
-    // A frame of so many zeros.
-    Zeros(usize),
-    Switch(u32),
-    Expiry(u32),
-    Failure,
-    Sample(u32, Sample),
-    Alarm(u32, bool),
-    Pump,
+    // A frame of the host, in hex.
+    Frame(&'a str),
+    Call(Call<'a>),
 }
 
-// A call with what it answers: code, detail, the frame that it sends in hex, and its lines.
+impl<'a> From<Call<'a>> for Act<'a> {
+    fn from(call: Call<'a>) -> Act<'a> {
+        Act::Call(call)
+    }
+}
+
+// A step with what it answers: code, detail, the frame that it sends in hex, and its lines.
 #[derive(Clone, Copy)]
 pub(crate) struct Step<'a> {
     act: Act<'a>,
     answer: (u8, usize),
-    sent: &'a [u8],
+    sent: &'a str,
+    // By the characters that a ledger shows, so that the tests hold these too.
     lines: &'a [(u8, u32)],
 }
 
-// A call that is done.
-pub(crate) fn done<'a>(act: Act<'a>, sent: &'a [u8], lines: &'a [(u8, u32)]) -> Step<'a> {
+// A step that is done.
+pub(crate) fn done<'a>(act: impl Into<Act<'a>>, sent: &'a str, lines: &'a [(u8, u32)]) -> Step<'a> {
     Step {
-        act,
+        act: act.into(),
         answer: (0, 0),
         sent,
         lines,
     }
 }
 
-// A call with another code, without lines.
-pub(crate) fn answers<'a>(act: Act<'a>, answer: (u8, usize), sent: &'a [u8]) -> Step<'a> {
+// A step with another code, without lines.
+pub(crate) fn answers<'a>(act: impl Into<Act<'a>>, answer: (u8, usize), sent: &'a str) -> Step<'a> {
     Step {
-        act,
         answer,
-        sent,
-        lines: &[],
+        ..done(act, sent, &[])
     }
 }
 
-fn digit(c: u8) -> Option<u8> {
-    match c {
-        b'0'..=b'9' => Some(c - b'0'),
-        b'a'..=b'f' => Some(c - b'a' + 10),
-        _ => None,
-    }
+// The bytes of a text in hex, in which blanks may stand anywhere.
+fn from_hex(heap: Global, text: &str) -> Result<Vec<u8>, AllocError> {
+    let digits: Vec<u8> = text
+        .chars()
+        .filter_map(|c| u8::try_from(c.to_digit(16)?).ok())
+        .collect(heap)?;
+    let (pairs, _) = digits.as_chunks::<2>();
+    pairs
+        .iter()
+        .map(|[high, low]| high << 4 | low)
+        .collect(heap)
 }
 
-// Writes the bytes of a text in hex to the front of `bytes`; answers how many.
-fn from_hex(text: &[u8], bytes: &mut [u8; 512]) -> usize {
-    let mut used = 0usize;
-    let mut high: Option<u8> = None;
-    for c in text.iter() {
-        if let Some(low) = digit(*c) {
-            match high {
-                None => {
-                    high = Some(low);
-                }
-                Some(h) => {
-                    if used < 512 {
-                        bytes[used] = (h % 16) * 16 + low % 16;
-                        used += 1;
-                    }
-                    high = None;
-                }
-            }
+// Whether these values stand at the front and the mark everywhere after them.
+fn are_at_front<T: Copy + PartialEq>(all: &[T], front: &[T], mark: T) -> bool {
+    all.strip_prefix(front)
+        .is_some_and(|rest| rest.iter().all(|value| *value == mark))
+}
+
+const MARK: u8 = 0xee;
+
+const MARKED_LINE: Line = Line {
+    letter: Letter::Made,
+    number: u32::MAX,
+};
+
+// What a call is lent, marked so that it shows what the call leaves as it was.
+#[derive(PartialEq, Drop)]
+pub(crate) struct Lent {
+    pub(crate) out: [u8; 512],
+    pub(crate) ledger: [Line; 32],
+}
+
+impl Lent {
+    pub(crate) fn marked() -> Lent {
+        Lent {
+            out: [MARK; 512],
+            ledger: [MARKED_LINE; 32],
         }
     }
-    used
-}
 
-// Whether the ledger begins with the listed lines and has the mark after them.
-pub(crate) fn lines_are(ledger: &[Line; 32], listed: &[(u8, u32)]) -> bool {
-    for (i, line) in ledger.iter().enumerate() {
-        let same = match listed.get(i) {
-            Some((letter, number)) => line.letter.character() == *letter && line.number == *number,
-            None => line.number == 4294967295,
-        };
-        if !same {
-            return false;
-        }
-    }
-    true
-}
-
-fn perform(
-    equipment: &mut Equipment<Ring, Ring>,
-    act: Act<'_>,
-    out: &mut [u8],
-    ledger: &mut [Line],
-) -> (u8, usize, usize, usize) {
-    match act {
-        Act::Host(text) => {
-            let mut bytes = [0u8; 512];
-            let n = from_hex(text, &mut bytes);
-            if n <= 512 {
-                equipment.host(&bytes[0..n], out, ledger)
-            } else {
-                (255, 0, 0, 0)
-            }
-        }
-        Act::Zeros(n) => {
-            let bytes = [0u8; 512];
-            if n <= 512 {
-                equipment.host(&bytes[0..n], out, ledger)
-            } else {
-                (255, 0, 0, 0)
-            }
-        }
-        Act::Switch(number) => equipment.switch(number, out, ledger),
-        Act::Expiry(number) => equipment.expiry(number, out, ledger),
-        Act::Failure => equipment.failure(out, ledger),
-        Act::Sample(variable, sample) => equipment.sample(variable, sample, out, ledger),
-        Act::Alarm(number, set) => equipment.alarm(number, set, out, ledger),
-        Act::Pump => equipment.pump(out, ledger),
-    }
-}
-
-// One step; bytes and lines after those that the call writes must stay as they were marked.
-fn take_step(rt: &impl Abort, equipment: &mut Equipment<Ring, Ring>, i: usize, step: Step<'_>) {
-    let mut out = [0xeeu8; 512];
-    let mut ledger = [Line {
-        letter: Letter::Made,
-        number: 4294967295,
-    }; 32];
-    let answer = perform(equipment, step.act, &mut out, &mut ledger);
-    let mut expected = [0xeeu8; 512];
-    let bytes = from_hex(step.sent, &mut expected);
-    let (code, detail) = step.answer;
-    assert_eq!(rt; (i, answer), (i, (code, detail, bytes, step.lines.len())));
-    assert_eq!(rt; (i, out == expected), (i, true));
-    assert_eq!(rt; (i, lines_are(&ledger, step.lines)), (i, true));
-}
-
-fn take_steps(rt: &impl Abort, equipment: &mut Equipment<Ring, Ring>, steps: &[Step<'_>]) {
-    for (i, step) in steps.iter().enumerate() {
-        take_step(rt, equipment, i, *step);
+    // Whether a call wrote these bytes and lines and nothing else.
+    pub(crate) fn holds(&self, sent: &[u8], lines: &[(u8, u32)]) -> bool {
+        let shown = |line: Line| (line.letter.character(), line.number);
+        are_at_front(&self.out, sent, MARK)
+            && are_at_front(&self.ledger.map(shown), lines, shown(MARKED_LINE))
     }
 }
 
 // The memory of a ring.
 pub(crate) fn slots(heap: Global, capacity: usize) -> Result<Vec<Record>, AllocError> {
-    let mut records = Vec::new(heap);
-    for _ in 0..capacity {
-        records.push(Record::blank())?;
-    }
-    Ok(records)
+    vec![in heap; Record::blank(); capacity]
 }
 
 // Alarms 1 and 32 of categories 4 and 127, whole variable 1 with two bands and real variable 2 with one.
-pub(crate) fn plan() -> Setup {
+fn plan() -> Setup {
     let mut setup = Setup::new();
     setup.add_alarm(1, 4);
     setup.add_alarm(32, 127);
@@ -208,30 +152,24 @@ pub(crate) const SETTINGS: Settings = Settings {
 
 // The same with the fallback HOST OFF-LINE.
 pub(crate) const HOST_FALLBACK: Settings = Settings {
-    session: 7,
     fallback: Fallback::HostOffline,
-    overwrite: false,
-    max_transmit: 0,
+    ..SETTINGS
 };
 
 // The same with OverWriteSpool.
 pub(crate) const OVERWRITE: Settings = Settings {
-    session: 7,
-    fallback: Fallback::EquipmentOffline,
     overwrite: true,
-    max_transmit: 0,
+    ..SETTINGS
 };
 
 // The same with MaxSpoolTransmit 1.
 pub(crate) const ONE_AT_MOST: Settings = Settings {
-    session: 7,
-    fallback: Fallback::EquipmentOffline,
-    overwrite: false,
     max_transmit: 1,
+    ..SETTINGS
 };
 
 // How far an equipment is taken before the steps of a test.
-#[derive(Clone, Copy)]
+#[derive(Clone, Copy, PartialEq, Eq, PartialOrd, Ord)]
 pub(crate) enum Stage {
     // Just started.
     Started,
@@ -243,121 +181,157 @@ pub(crate) enum Stage {
     Ready,
 }
 
-// ENABLE, and the host accepts.
-fn connect(rt: &impl Abort, equipment: &mut Equipment<Ring, Ring>) {
-    take_steps(
-        rt,
-        equipment,
-        &[
+// Takes an equipment through steps.
+#[derive(Drop)]
+struct Driver<'a, R> {
+    rt: &'a R,
+    heap: Global,
+    equipment: &'a mut Equipment<Ring, Ring>,
+}
+
+impl<R: Abort> Driver<'_, R> {
+    fn take_step(&mut self, i: usize, step: Step<'_>) -> Result<(), AllocError> {
+        let mut lent = Lent::marked();
+        let answer = match step.act {
+            Act::Frame(text) => {
+                let frame = from_hex(self.heap, text)?;
+                self.equipment.host(&frame, &mut lent.out, &mut lent.ledger)
+            }
+            Act::Call(call) => self.equipment.call(call, &mut lent.out, &mut lent.ledger),
+        };
+        let sent = from_hex(self.heap, step.sent)?;
+        let (code, detail) = step.answer;
+        let expected = (code, detail, sent.len(), step.lines.len());
+        assert_eq!(self.rt; answer, expected, "at step {i}");
+        assert!(self.rt;
+            lent.holds(&sent, step.lines),
+            "at step {i}: bytes and lines"
+        );
+        Ok(())
+    }
+
+    fn take_steps(&mut self, steps: &[Step<'_>]) -> Result<(), AllocError> {
+        for (i, step) in steps.iter().enumerate() {
+            self.take_step(i, *step)?;
+        }
+        Ok(())
+    }
+
+    // ENABLE, and the host accepts.
+    fn connect(&mut self) -> Result<(), AllocError> {
+        self.take_steps(&[
             // S1,F13 W, transaction 1: L,2 A "BENCH1" A "000001"
             done(
-                Act::Switch(1),
-                b"0000001c 0007 810d 0000 00000001 0102 4106 42454e434831 4106 303030303031",
+                Call::Switch(1),
+                "0000001c 0007 810d 0000 00000001 0102 4106 42454e434831 4106 303030303031",
                 &[],
             ),
             // S1,F14: L,2 B 0 L,0
             done(
-                Act::Host(b"0007 010e 0000 00000001 0102 210100 0100"),
-                b"",
+                Act::Frame("0007 010e 0000 00000001 0102 210100 0100"),
+                "",
                 &[],
             ),
-        ],
-    );
-}
+        ])
+    }
 
-// ONLINE, and the host answers.
-fn go_online(rt: &impl Abort, equipment: &mut Equipment<Ring, Ring>) {
-    take_steps(
-        rt,
-        equipment,
-        &[
+    // ONLINE, and the host answers.
+    fn go_online(&mut self) -> Result<(), AllocError> {
+        self.take_steps(&[
             // S1,F1 W, transaction 2
-            done(Act::Switch(3), b"0000000a 0007 8101 0000 00000002", &[]),
+            done(Call::Switch(3), "0000000a 0007 8101 0000 00000002", &[]),
             // S1,F2
-            done(
-                Act::Host(b"0007 0102 0000 00000002 0100"),
-                b"",
-                &[(b'M', 1)],
-            ),
-        ],
-    );
-}
+            done(Act::Frame("0007 0102 0000 00000002 0100"), "", &[(b'M', 1)]),
+        ])
+    }
 
-// The pump sends report 1, and the host acknowledges it.
-fn send_first(rt: &impl Abort, equipment: &mut Equipment<Ring, Ring>) {
-    take_steps(
-        rt,
-        equipment,
-        &[
+    // The pump sends report 1, and the host acknowledges it.
+    fn send_first(&mut self) -> Result<(), AllocError> {
+        self.take_steps(&[
             // S6,F11 W, transaction 3: L,3 U4 1, U4 3, L,0
             done(
-                Act::Pump,
-                b"0000001a 0007 860b 0000 00000003 0103 b10400000001 b10400000003 0100",
+                Call::Pump,
+                "0000001a 0007 860b 0000 00000003 0103 b10400000001 b10400000003 0100",
                 &[],
             ),
             // S6,F12
             done(
-                Act::Host(b"0007 060c 0000 00000003 210100"),
-                b"",
+                Act::Frame("0007 060c 0000 00000003 210100"),
+                "",
                 &[(b'A', 1)],
             ),
-        ],
-    );
-}
+        ])
+    }
 
-fn bring(rt: &impl Abort, equipment: &mut Equipment<Ring, Ring>, stage: Stage) {
-    match stage {
-        Stage::Started => {}
-        Stage::Communicating => connect(rt, equipment),
-        Stage::Online => {
-            connect(rt, equipment);
-            go_online(rt, equipment);
+    // Takes an equipment that is just started to a stage.
+    fn bring(&mut self, stage: Stage) -> Result<(), AllocError> {
+        if stage >= Stage::Communicating {
+            self.connect()?;
         }
-        Stage::Ready => {
-            connect(rt, equipment);
-            go_online(rt, equipment);
-            send_first(rt, equipment);
+        if stage >= Stage::Online {
+            self.go_online()?;
         }
+        if stage >= Stage::Ready {
+            self.send_first()?;
+        }
+        Ok(())
+    }
+
+    fn bring_and_take(&mut self, stage: Stage, steps: &[Step<'_>]) -> Result<(), AllocError> {
+        self.bring(stage)?;
+        self.take_steps(steps)
     }
 }
 
-fn bring_and_take(
-    rt: &impl Abort,
-    equipment: &mut Equipment<Ring, Ring>,
-    stage: Stage,
-    steps: &[Step<'_>],
-) {
-    bring(rt, equipment, stage);
-    take_steps(rt, equipment, steps);
+// An equipment just started, with a queue and a spool of these capacities.
+pub(crate) fn started(
+    heap: Global,
+    capacities: (usize, usize),
+    settings: Settings,
+) -> Result<Equipment<Ring, Ring>, AllocError> {
+    let first = slots(heap, capacities.0)?;
+    let second = slots(heap, capacities.1)?;
+    let queue = Ring::new(first);
+    let spool = Ring::new(second);
+    Ok(Equipment::start(plan(), settings, queue, spool))
+}
+
+// Ends an equipment; answers how many reports its queue and its spool hold.
+pub(crate) fn ended(equipment: Equipment<Ring, Ring>) -> (usize, usize) {
+    let (queue, spool) = equipment.into_stores();
+    let counts = (queue.count(), spool.count());
+    queue.into_slots();
+    spool.into_slots();
+    counts
 }
 
 // Runs an equipment with a queue and a spool of these capacities; answers how many reports the two hold in the end.
 pub(crate) fn run_with(
-    rt: &impl Abort,
-    heap: Global,
+    rt: &(impl Abort + AllocGlobal),
     capacities: (usize, usize),
     settings: Settings,
     stage: Stage,
     steps: &[Step<'_>],
 ) -> Result<(usize, usize), Fail> {
-    let first = slots(heap, capacities.0)?;
-    let second = slots(heap, capacities.1)?;
-    let mut equipment = Equipment::start(plan(), settings, Ring::new(first), Ring::new(second));
-    bring_and_take(rt, &mut equipment, stage, steps);
-    let (queue, spool) = equipment.into_stores();
-    let counts = (queue.count(), spool.count());
-    queue.into_slots();
-    spool.into_slots();
+    let heap = rt.alloc();
+    let mut equipment = started(heap, capacities, settings)?;
+    let mut driver = Driver {
+        rt,
+        heap,
+        equipment: &mut equipment,
+    };
+    let result = driver.bring_and_take(stage, steps);
+    let counts = ended(equipment);
+    result?;
     Ok(counts)
 }
 
 // The same with a queue of 2 and a spool of 2.
 pub(crate) fn run(
-    rt: &impl Abort,
-    heap: Global,
+    rt: &(impl Abort + AllocGlobal),
     settings: Settings,
     stage: Stage,
     steps: &[Step<'_>],
 ) -> Result<(usize, usize), Fail> {
-    run_with(rt, heap, (2, 2), settings, stage, steps)
+    run_with(rt, (2, 2), settings, stage, steps)
 }

@@ -1,5 +1,6 @@
 // Frames of the host and what is told about them.
 use crate::driver::{Act, SETTINGS, Stage, answers, done, run};
+use gem::equipment::Call;
 use std::test::Fail;
 
 // Another session: 20 at place 0, S9,F1, before the stream is looked at.
@@ -7,21 +8,20 @@ use std::test::Fail;
 fn wrong_session(rt: HostRuntime) -> Result<(), Fail> {
     let counts = run(
         &rt,
-        rt.alloc(),
         SETTINGS,
         Stage::Ready,
         &[
             // the host's S1,F1 W; S9,F1: the header of the frame at fault
             answers(
-                Act::Host(b"0008 8101 0000 000000aa"),
+                Act::Frame("0008 8101 0000 000000aa"),
                 (20, 0),
-                b"00000016 0007 0901 0000 00000004 210a 0008 8101 0000 000000aa",
+                "00000016 0007 0901 0000 00000004 210a 0008 8101 0000 000000aa",
             ),
             // the host's S3,F1; S9,F1: the header of the frame at fault
             answers(
-                Act::Host(b"0107 0301 0000 000000aa"),
+                Act::Frame("0107 0301 0000 000000aa"),
                 (20, 0),
-                b"00000016 0007 0901 0000 00000005 210a 0107 0301 0000 000000aa",
+                "00000016 0007 0901 0000 00000005 210a 0107 0301 0000 000000aa",
             ),
         ],
     )?;
@@ -34,33 +34,32 @@ fn wrong_session(rt: HostRuntime) -> Result<(), Fail> {
 fn unknown_streams(rt: HostRuntime) -> Result<(), Fail> {
     let counts = run(
         &rt,
-        rt.alloc(),
         SETTINGS,
         Stage::Ready,
         &[
             // the host's S3,F1 W; S9,F3: the header of the frame at fault
             answers(
-                Act::Host(b"0007 8301 0000 000000aa"),
+                Act::Frame("0007 8301 0000 000000aa"),
                 (21, 2),
-                b"00000016 0007 0903 0000 00000004 210a 0007 8301 0000 000000aa",
+                "00000016 0007 0903 0000 00000004 210a 0007 8301 0000 000000aa",
             ),
             // the host's S0,F1; S9,F3: the header of the frame at fault
             answers(
-                Act::Host(b"0007 0001 0000 000000aa"),
+                Act::Frame("0007 0001 0000 000000aa"),
                 (21, 2),
-                b"00000016 0007 0903 0000 00000005 210a 0007 0001 0000 000000aa",
+                "00000016 0007 0903 0000 00000005 210a 0007 0001 0000 000000aa",
             ),
             // the host's S127,F17 W; S9,F3: the header of the frame at fault
             answers(
-                Act::Host(b"0007 ff11 0000 000000aa"),
+                Act::Frame("0007 ff11 0000 000000aa"),
                 (21, 2),
-                b"00000016 0007 0903 0000 00000006 210a 0007 ff11 0000 000000aa",
+                "00000016 0007 0903 0000 00000006 210a 0007 ff11 0000 000000aa",
             ),
             // the host's S7,F23; S9,F3: the header of the frame at fault
             answers(
-                Act::Host(b"0007 0717 0000 000000aa"),
+                Act::Frame("0007 0717 0000 000000aa"),
                 (21, 2),
-                b"00000016 0007 0903 0000 00000007 210a 0007 0717 0000 000000aa",
+                "00000016 0007 0903 0000 00000007 210a 0007 0717 0000 000000aa",
             ),
         ],
     )?;
@@ -73,39 +72,38 @@ fn unknown_streams(rt: HostRuntime) -> Result<(), Fail> {
 fn unknown_functions(rt: HostRuntime) -> Result<(), Fail> {
     let counts = run(
         &rt,
-        rt.alloc(),
         SETTINGS,
         Stage::Ready,
         &[
             // the host's S1,F3 W; S9,F5: the header of the frame at fault
             answers(
-                Act::Host(b"0007 8103 0000 000000aa"),
+                Act::Frame("0007 8103 0000 000000aa"),
                 (22, 3),
-                b"00000016 0007 0905 0000 00000004 210a 0007 8103 0000 000000aa",
+                "00000016 0007 0905 0000 00000004 210a 0007 8103 0000 000000aa",
             ),
             // the host's S2,F1; S9,F5: the header of the frame at fault
             answers(
-                Act::Host(b"0007 0201 0000 000000aa"),
+                Act::Frame("0007 0201 0000 000000aa"),
                 (22, 3),
-                b"00000016 0007 0905 0000 00000005 210a 0007 0201 0000 000000aa",
+                "00000016 0007 0905 0000 00000005 210a 0007 0201 0000 000000aa",
             ),
             // the host's S5,F1; S9,F5: the header of the frame at fault
             answers(
-                Act::Host(b"0007 0501 0000 000000aa"),
+                Act::Frame("0007 0501 0000 000000aa"),
                 (22, 3),
-                b"00000016 0007 0905 0000 00000006 210a 0007 0501 0000 000000aa",
+                "00000016 0007 0905 0000 00000006 210a 0007 0501 0000 000000aa",
             ),
             // the host's S6,F11 W; S9,F5: the header of the frame at fault
             answers(
-                Act::Host(b"0007 860b 0000 000000aa"),
+                Act::Frame("0007 860b 0000 000000aa"),
                 (22, 3),
-                b"00000016 0007 0905 0000 00000007 210a 0007 860b 0000 000000aa",
+                "00000016 0007 0905 0000 00000007 210a 0007 860b 0000 000000aa",
             ),
             // the host's S1,F255; S9,F5: the header of the frame at fault
             answers(
-                Act::Host(b"0007 01ff 0000 000000aa"),
+                Act::Frame("0007 01ff 0000 000000aa"),
                 (22, 3),
-                b"00000016 0007 0905 0000 00000008 210a 0007 01ff 0000 000000aa",
+                "00000016 0007 0905 0000 00000008 210a 0007 01ff 0000 000000aa",
             ),
         ],
     )?;
@@ -118,40 +116,39 @@ fn unknown_functions(rt: HostRuntime) -> Result<(), Fail> {
 fn offline_primaries(rt: HostRuntime) -> Result<(), Fail> {
     let counts = run(
         &rt,
-        rt.alloc(),
         SETTINGS,
         Stage::Communicating,
         &[
             // the host's S3,F1 W; S3,F0
             done(
-                Act::Host(b"0007 8301 0000 000000aa"),
-                b"0000000a 0007 0300 0000 000000aa",
+                Act::Frame("0007 8301 0000 000000aa"),
+                "0000000a 0007 0300 0000 000000aa",
                 &[],
             ),
             // the host's S3,F1
-            done(Act::Host(b"0007 0301 0000 000000aa"), b"", &[]),
+            done(Act::Frame("0007 0301 0000 000000aa"), "", &[]),
             // the host's S1,F1 W; S1,F0
             done(
-                Act::Host(b"0007 8101 0000 000000aa"),
-                b"0000000a 0007 0100 0000 000000aa",
+                Act::Frame("0007 8101 0000 000000aa"),
+                "0000000a 0007 0100 0000 000000aa",
                 &[],
             ),
             // the host's S6,F23 W; S6,F0
             done(
-                Act::Host(b"0007 8617 0000 000000aa"),
-                b"0000000a 0007 0600 0000 000000aa",
+                Act::Frame("0007 8617 0000 000000aa"),
+                "0000000a 0007 0600 0000 000000aa",
                 &[],
             ),
             // the host's S1,F13 W; S1,F14: L,2 B 0, L,2 A "BENCH1" A "000001"
             done(
-                Act::Host(b"0007 810d 0000 000000aa"),
-                b"00000021 0007 010e 0000 000000aa 0102 210100 0102 4106 42454e434831 4106 303030303031",
+                Act::Frame("0007 810d 0000 000000aa"),
+                "00000021 0007 010e 0000 000000aa 0102 210100 0102 4106 42454e434831 4106 303030303031",
                 &[],
             ),
             // the host's S1,F17 W; S1,F18: B 1
             done(
-                Act::Host(b"0007 8111 0000 000000aa"),
-                b"0000000d 0007 0112 0000 000000aa 210101",
+                Act::Frame("0007 8111 0000 000000aa"),
+                "0000000d 0007 0112 0000 000000aa 210101",
                 &[],
             ),
         ],
@@ -165,28 +162,27 @@ fn offline_primaries(rt: HostRuntime) -> Result<(), Fail> {
 fn are_you_there(rt: HostRuntime) -> Result<(), Fail> {
     let counts = run(
         &rt,
-        rt.alloc(),
         SETTINGS,
         Stage::Ready,
         &[
             // the host's S1,F1 W; S1,F2: L,2 A "BENCH1" A "000001"
             done(
-                Act::Host(b"0007 8101 0000 000000aa"),
-                b"0000001c 0007 0102 0000 000000aa 0102 4106 42454e434831 4106 303030303031",
+                Act::Frame("0007 8101 0000 000000aa"),
+                "0000001c 0007 0102 0000 000000aa 0102 4106 42454e434831 4106 303030303031",
                 &[],
             ),
             // the host's S1,F1
-            done(Act::Host(b"0007 0101 0000 000000aa"), b"", &[]),
+            done(Act::Frame("0007 0101 0000 000000aa"), "", &[]),
             // the host's S1,F13 W; S1,F14: L,2 B 0, L,2 A "BENCH1" A "000001"
             done(
-                Act::Host(b"0007 810d 0000 000000aa ffff"),
-                b"00000021 0007 010e 0000 000000aa 0102 210100 0102 4106 42454e434831 4106 303030303031",
+                Act::Frame("0007 810d 0000 000000aa ffff"),
+                "00000021 0007 010e 0000 000000aa 0102 210100 0102 4106 42454e434831 4106 303030303031",
                 &[],
             ),
             // the host's S1,F17 W; S1,F18: B 2
             done(
-                Act::Host(b"0007 8111 0000 000000aa"),
-                b"0000000d 0007 0112 0000 000000aa 210102",
+                Act::Frame("0007 8111 0000 000000aa"),
+                "0000000d 0007 0112 0000 000000aa 210102",
                 &[],
             ),
         ],
@@ -200,32 +196,31 @@ fn are_you_there(rt: HostRuntime) -> Result<(), Fail> {
 fn bodies_that_must_not_be(rt: HostRuntime) -> Result<(), Fail> {
     let counts = run(
         &rt,
-        rt.alloc(),
         SETTINGS,
         Stage::Ready,
         &[
             // the host's S1,F1 W; S9,F7: the header of the frame at fault
             answers(
-                Act::Host(b"0007 8101 0000 000000aa ff"),
+                Act::Frame("0007 8101 0000 000000aa ff"),
                 (24, 10),
-                b"00000016 0007 0907 0000 00000004 210a 0007 8101 0000 000000aa",
+                "00000016 0007 0907 0000 00000004 210a 0007 8101 0000 000000aa",
             ),
             // the host's S1,F15 W; S9,F7: the header of the frame at fault
             answers(
-                Act::Host(b"0007 810f 0000 000000aa 0100"),
+                Act::Frame("0007 810f 0000 000000aa 0100"),
                 (24, 10),
-                b"00000016 0007 0907 0000 00000005 210a 0007 810f 0000 000000aa",
+                "00000016 0007 0907 0000 00000005 210a 0007 810f 0000 000000aa",
             ),
             // the host's S1,F17; S9,F7: the header of the frame at fault
             answers(
-                Act::Host(b"0007 0111 0000 000000aa 00"),
+                Act::Frame("0007 0111 0000 000000aa 00"),
                 (24, 10),
-                b"00000016 0007 0907 0000 00000006 210a 0007 0111 0000 000000aa",
+                "00000016 0007 0907 0000 00000006 210a 0007 0111 0000 000000aa",
             ),
             // the host's S1,F17 W; S1,F18: B 2
             done(
-                Act::Host(b"0007 8111 0000 000000aa"),
-                b"0000000d 0007 0112 0000 000000aa 210102",
+                Act::Frame("0007 8111 0000 000000aa"),
+                "0000000d 0007 0112 0000 000000aa 210102",
                 &[],
             ),
         ],
@@ -239,33 +234,32 @@ fn bodies_that_must_not_be(rt: HostRuntime) -> Result<(), Fail> {
 fn item_faults(rt: HostRuntime) -> Result<(), Fail> {
     let counts = run(
         &rt,
-        rt.alloc(),
         SETTINGS,
         Stage::Ready,
         &[
             // the host's S5,F3; S9,F7: the header of the frame at fault
             answers(
-                Act::Host(b"0007 0503 0000 000000aa"),
+                Act::Frame("0007 0503 0000 000000aa"),
                 (23, 10),
-                b"00000016 0007 0907 0000 00000004 210a 0007 0503 0000 000000aa",
+                "00000016 0007 0907 0000 00000004 210a 0007 0503 0000 000000aa",
             ),
             // the host's S5,F3; S9,F7: the header of the frame at fault
             answers(
-                Act::Host(b"0007 0503 0000 000000aa 00"),
+                Act::Frame("0007 0503 0000 000000aa 00"),
                 (23, 10),
-                b"00000016 0007 0907 0000 00000005 210a 0007 0503 0000 000000aa",
+                "00000016 0007 0907 0000 00000005 210a 0007 0503 0000 000000aa",
             ),
             // the host's S5,F3; S9,F7: the header of the frame at fault
             answers(
-                Act::Host(b"0007 0503 0000 000000aa 01"),
+                Act::Frame("0007 0503 0000 000000aa 01"),
                 (23, 10),
-                b"00000016 0007 0907 0000 00000006 210a 0007 0503 0000 000000aa",
+                "00000016 0007 0907 0000 00000006 210a 0007 0503 0000 000000aa",
             ),
             // the host's S5,F3; S9,F7: the header of the frame at fault
             answers(
-                Act::Host(b"0007 0503 0000 000000aa fd0100"),
+                Act::Frame("0007 0503 0000 000000aa fd0100"),
                 (23, 10),
-                b"00000016 0007 0907 0000 00000007 210a 0007 0503 0000 000000aa",
+                "00000016 0007 0907 0000 00000007 210a 0007 0503 0000 000000aa",
             ),
         ],
     )?;
@@ -278,33 +272,32 @@ fn item_faults(rt: HostRuntime) -> Result<(), Fail> {
 fn later_item_faults(rt: HostRuntime) -> Result<(), Fail> {
     let counts = run(
         &rt,
-        rt.alloc(),
         SETTINGS,
         Stage::Ready,
         &[
             // the host's S5,F3; S9,F7: the header of the frame at fault
             answers(
-                Act::Host(b"0007 0503 0000 000000aa 0102"),
+                Act::Frame("0007 0503 0000 000000aa 0102"),
                 (23, 12),
-                b"00000016 0007 0907 0000 00000004 210a 0007 0503 0000 000000aa",
+                "00000016 0007 0907 0000 00000004 210a 0007 0503 0000 000000aa",
             ),
             // the host's S5,F3; S9,F7: the header of the frame at fault
             answers(
-                Act::Host(b"0007 0503 0000 000000aa 0102 210280"),
+                Act::Frame("0007 0503 0000 000000aa 0102 210280"),
                 (23, 12),
-                b"00000016 0007 0907 0000 00000005 210a 0007 0503 0000 000000aa",
+                "00000016 0007 0907 0000 00000005 210a 0007 0503 0000 000000aa",
             ),
             // the host's S5,F3; S9,F7: the header of the frame at fault
             answers(
-                Act::Host(b"0007 0503 0000 000000aa 0102 210180"),
+                Act::Frame("0007 0503 0000 000000aa 0102 210180"),
                 (23, 15),
-                b"00000016 0007 0907 0000 00000006 210a 0007 0503 0000 000000aa",
+                "00000016 0007 0907 0000 00000006 210a 0007 0503 0000 000000aa",
             ),
             // the host's S5,F3; S9,F7: the header of the frame at fault
             answers(
-                Act::Host(b"0007 0503 0000 000000aa 0102 210180 b103000001"),
+                Act::Frame("0007 0503 0000 000000aa 0102 210180 b103000001"),
                 (23, 15),
-                b"00000016 0007 0907 0000 00000007 210a 0007 0503 0000 000000aa",
+                "00000016 0007 0907 0000 00000007 210a 0007 0503 0000 000000aa",
             ),
         ],
     )?;
@@ -317,33 +310,32 @@ fn later_item_faults(rt: HostRuntime) -> Result<(), Fail> {
 fn other_items(rt: HostRuntime) -> Result<(), Fail> {
     let counts = run(
         &rt,
-        rt.alloc(),
         SETTINGS,
         Stage::Ready,
         &[
             // the host's S5,F3; S9,F7: the header of the frame at fault
             answers(
-                Act::Host(b"0007 0503 0000 000000aa 0103 210180 b10400000001"),
+                Act::Frame("0007 0503 0000 000000aa 0103 210180 b10400000001"),
                 (24, 10),
-                b"00000016 0007 0907 0000 00000004 210a 0007 0503 0000 000000aa",
+                "00000016 0007 0907 0000 00000004 210a 0007 0503 0000 000000aa",
             ),
             // the host's S5,F3; S9,F7: the header of the frame at fault
             answers(
-                Act::Host(b"0007 0503 0000 000000aa 210180"),
+                Act::Frame("0007 0503 0000 000000aa 210180"),
                 (24, 10),
-                b"00000016 0007 0907 0000 00000005 210a 0007 0503 0000 000000aa",
+                "00000016 0007 0907 0000 00000005 210a 0007 0503 0000 000000aa",
             ),
             // the host's S5,F3; S9,F7: the header of the frame at fault
             answers(
-                Act::Host(b"0007 0503 0000 000000aa 0102 410180"),
+                Act::Frame("0007 0503 0000 000000aa 0102 410180"),
                 (24, 12),
-                b"00000016 0007 0907 0000 00000006 210a 0007 0503 0000 000000aa",
+                "00000016 0007 0907 0000 00000006 210a 0007 0503 0000 000000aa",
             ),
             // the host's S5,F3; S9,F7: the header of the frame at fault
             answers(
-                Act::Host(b"0007 0503 0000 000000aa 0102 21028080"),
+                Act::Frame("0007 0503 0000 000000aa 0102 21028080"),
                 (24, 12),
-                b"00000016 0007 0907 0000 00000007 210a 0007 0503 0000 000000aa",
+                "00000016 0007 0907 0000 00000007 210a 0007 0503 0000 000000aa",
             ),
         ],
     )?;
@@ -356,27 +348,26 @@ fn other_items(rt: HostRuntime) -> Result<(), Fail> {
 fn later_other_items(rt: HostRuntime) -> Result<(), Fail> {
     let counts = run(
         &rt,
-        rt.alloc(),
         SETTINGS,
         Stage::Ready,
         &[
             // the host's S5,F3; S9,F7: the header of the frame at fault
             answers(
-                Act::Host(b"0007 0503 0000 000000aa 0102 210180 210101"),
+                Act::Frame("0007 0503 0000 000000aa 0102 210180 210101"),
                 (24, 15),
-                b"00000016 0007 0907 0000 00000004 210a 0007 0503 0000 000000aa",
+                "00000016 0007 0907 0000 00000004 210a 0007 0503 0000 000000aa",
             ),
             // the host's S5,F3; S9,F7: the header of the frame at fault
             answers(
-                Act::Host(b"0007 0503 0000 000000aa 0102 210180 b1080000000100000001"),
+                Act::Frame("0007 0503 0000 000000aa 0102 210180 b1080000000100000001"),
                 (24, 15),
-                b"00000016 0007 0907 0000 00000005 210a 0007 0503 0000 000000aa",
+                "00000016 0007 0907 0000 00000005 210a 0007 0503 0000 000000aa",
             ),
             // the host's S5,F3; S9,F7: the header of the frame at fault
             answers(
-                Act::Host(b"0007 0503 0000 000000aa 0102 210180 b10400000001 00"),
+                Act::Frame("0007 0503 0000 000000aa 0102 210180 b10400000001 00"),
                 (24, 21),
-                b"00000016 0007 0907 0000 00000006 210a 0007 0503 0000 000000aa",
+                "00000016 0007 0907 0000 00000006 210a 0007 0503 0000 000000aa",
             ),
         ],
     )?;
@@ -389,39 +380,38 @@ fn later_other_items(rt: HostRuntime) -> Result<(), Fail> {
 fn unload_items(rt: HostRuntime) -> Result<(), Fail> {
     let counts = run(
         &rt,
-        rt.alloc(),
         SETTINGS,
         Stage::Ready,
         &[
             // the host's S6,F23; S9,F7: the header of the frame at fault
             answers(
-                Act::Host(b"0007 0617 0000 000000aa"),
+                Act::Frame("0007 0617 0000 000000aa"),
                 (23, 10),
-                b"00000016 0007 0907 0000 00000004 210a 0007 0617 0000 000000aa",
+                "00000016 0007 0907 0000 00000004 210a 0007 0617 0000 000000aa",
             ),
             // the host's S6,F23; S9,F7: the header of the frame at fault
             answers(
-                Act::Host(b"0007 0617 0000 000000aa a50102"),
+                Act::Frame("0007 0617 0000 000000aa a50102"),
                 (24, 10),
-                b"00000016 0007 0907 0000 00000005 210a 0007 0617 0000 000000aa",
+                "00000016 0007 0907 0000 00000005 210a 0007 0617 0000 000000aa",
             ),
             // the host's S6,F23; S9,F7: the header of the frame at fault
             answers(
-                Act::Host(b"0007 0617 0000 000000aa a5020000"),
+                Act::Frame("0007 0617 0000 000000aa a5020000"),
                 (24, 10),
-                b"00000016 0007 0907 0000 00000006 210a 0007 0617 0000 000000aa",
+                "00000016 0007 0907 0000 00000006 210a 0007 0617 0000 000000aa",
             ),
             // the host's S6,F23; S9,F7: the header of the frame at fault
             answers(
-                Act::Host(b"0007 0617 0000 000000aa a50100 a5"),
+                Act::Frame("0007 0617 0000 000000aa a50100 a5"),
                 (24, 13),
-                b"00000016 0007 0907 0000 00000007 210a 0007 0617 0000 000000aa",
+                "00000016 0007 0907 0000 00000007 210a 0007 0617 0000 000000aa",
             ),
             // the host's S6,F23; S9,F7: the header of the frame at fault
             answers(
-                Act::Host(b"0007 0617 0000 000000aa 210100"),
+                Act::Frame("0007 0617 0000 000000aa 210100"),
                 (24, 10),
-                b"00000016 0007 0907 0000 00000008 210a 0007 0617 0000 000000aa",
+                "00000016 0007 0907 0000 00000008 210a 0007 0617 0000 000000aa",
             ),
         ],
     )?;
@@ -434,20 +424,19 @@ fn unload_items(rt: HostRuntime) -> Result<(), Fail> {
 fn long_length(rt: HostRuntime) -> Result<(), Fail> {
     let counts = run(
         &rt,
-        rt.alloc(),
         SETTINGS,
         Stage::Ready,
         &[
             // the host's S5,F3 W; S5,F4: B 0
             done(
-                Act::Host(b"0007 8503 0000 000000aa 020002 210100 b300000400000001"),
-                b"0000000d 0007 0504 0000 000000aa 210100",
+                Act::Frame("0007 8503 0000 000000aa 020002 210100 b300000400000001"),
+                "0000000d 0007 0504 0000 000000aa 210100",
                 &[],
             ),
             // the host's S6,F23 W; S6,F24: B 2
             done(
-                Act::Host(b"0007 8617 0000 000000aa a6000100"),
-                b"0000000d 0007 0618 0000 000000aa 210102",
+                Act::Frame("0007 8617 0000 000000aa a6000100"),
+                "0000000d 0007 0618 0000 000000aa 210102",
                 &[],
             ),
         ],
@@ -461,22 +450,21 @@ fn long_length(rt: HostRuntime) -> Result<(), Fail> {
 fn even_functions(rt: HostRuntime) -> Result<(), Fail> {
     let counts = run(
         &rt,
-        rt.alloc(),
         SETTINGS,
         Stage::Ready,
         &[
             // the host's S6,F12
-            done(Act::Host(b"0007 060c 0000 00000003"), b"", &[]),
+            done(Act::Frame("0007 060c 0000 00000003"), "", &[]),
             // the host's S5,F2
-            done(Act::Host(b"0007 0502 0000 00000003"), b"", &[]),
+            done(Act::Frame("0007 0502 0000 00000003"), "", &[]),
             // the host's S1,F2
-            done(Act::Host(b"0007 0102 0000 00000002"), b"", &[]),
+            done(Act::Frame("0007 0102 0000 00000002"), "", &[]),
             // the host's S1,F14
-            done(Act::Host(b"0007 010e 0000 00000001"), b"", &[]),
+            done(Act::Frame("0007 010e 0000 00000001"), "", &[]),
             // the host's S3,F2
-            done(Act::Host(b"0007 0302 0000 00000003"), b"", &[]),
+            done(Act::Frame("0007 0302 0000 00000003"), "", &[]),
             // the host's S6,F0
-            done(Act::Host(b"0007 0600 0000 00000003"), b"", &[]),
+            done(Act::Frame("0007 0600 0000 00000003"), "", &[]),
         ],
     )?;
     assert_eq!(rt; counts, (0, 0));

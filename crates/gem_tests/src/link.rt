@@ -1,5 +1,6 @@
 // The communications state.
 use crate::driver::{Act, SETTINGS, Stage, answers, done, run};
+use gem::equipment::Call;
 use std::test::Fail;
 
 // ENABLE sends S1,F13 W: L,2 A "BENCH1" A "000001". A second ENABLE does nothing, nor does a second DISABLE.
@@ -7,28 +8,27 @@ use std::test::Fail;
 fn enable_and_disable(rt: HostRuntime) -> Result<(), Fail> {
     let counts = run(
         &rt,
-        rt.alloc(),
         SETTINGS,
         Stage::Started,
         &[
             // DISABLE
-            done(Act::Switch(2), b"", &[]),
+            done(Call::Switch(2), "", &[]),
             // ENABLE; S1,F13 W
             done(
-                Act::Switch(1),
-                b"0000001c 0007 810d 0000 00000001 0102 4106 42454e434831 4106 303030303031",
+                Call::Switch(1),
+                "0000001c 0007 810d 0000 00000001 0102 4106 42454e434831 4106 303030303031",
                 &[],
             ),
             // ENABLE
-            done(Act::Switch(1), b"", &[]),
+            done(Call::Switch(1), "", &[]),
             // DISABLE
-            done(Act::Switch(2), b"", &[]),
+            done(Call::Switch(2), "", &[]),
             // DISABLE
-            done(Act::Switch(2), b"", &[]),
+            done(Call::Switch(2), "", &[]),
             // ENABLE; S1,F13 W
             done(
-                Act::Switch(1),
-                b"0000001c 0007 810d 0000 00000002 0102 4106 42454e434831 4106 303030303031",
+                Call::Switch(1),
+                "0000001c 0007 810d 0000 00000002 0102 4106 42454e434831 4106 303030303031",
                 &[],
             ),
         ],
@@ -42,25 +42,24 @@ fn enable_and_disable(rt: HostRuntime) -> Result<(), Fail> {
 fn failure_and_delay(rt: HostRuntime) -> Result<(), Fail> {
     let counts = run(
         &rt,
-        rt.alloc(),
         SETTINGS,
         Stage::Started,
         &[
-            done(Act::Failure, b"", &[]),
+            done(Call::Failure, "", &[]),
             // ENABLE; S1,F13 W
             done(
-                Act::Switch(1),
-                b"0000001c 0007 810d 0000 00000001 0102 4106 42454e434831 4106 303030303031",
+                Call::Switch(1),
+                "0000001c 0007 810d 0000 00000001 0102 4106 42454e434831 4106 303030303031",
                 &[],
             ),
-            done(Act::Expiry(1), b"", &[]),
-            done(Act::Failure, b"", &[]),
-            done(Act::Failure, b"", &[]),
-            done(Act::Expiry(2), b"", &[]),
+            done(Call::Expiry(1), "", &[]),
+            done(Call::Failure, "", &[]),
+            done(Call::Failure, "", &[]),
+            done(Call::Expiry(2), "", &[]),
             // S1,F13 W
             done(
-                Act::Expiry(1),
-                b"0000001c 0007 810d 0000 00000002 0102 4106 42454e434831 4106 303030303031",
+                Call::Expiry(1),
+                "0000001c 0007 810d 0000 00000002 0102 4106 42454e434831 4106 303030303031",
                 &[],
             ),
         ],
@@ -74,23 +73,22 @@ fn failure_and_delay(rt: HostRuntime) -> Result<(), Fail> {
 fn no_reply_in_time(rt: HostRuntime) -> Result<(), Fail> {
     let counts = run(
         &rt,
-        rt.alloc(),
         SETTINGS,
         Stage::Communicating,
         &[
-            done(Act::Expiry(1), b"", &[]),
-            done(Act::Expiry(2), b"", &[]),
+            done(Call::Expiry(1), "", &[]),
+            done(Call::Expiry(2), "", &[]),
             // S1,F13 W
             done(
-                Act::Failure,
-                b"0000001c 0007 810d 0000 00000002 0102 4106 42454e434831 4106 303030303031",
+                Call::Failure,
+                "0000001c 0007 810d 0000 00000002 0102 4106 42454e434831 4106 303030303031",
                 &[],
             ),
-            done(Act::Expiry(2), b"", &[]),
+            done(Call::Expiry(2), "", &[]),
             // S1,F13 W
             done(
-                Act::Expiry(1),
-                b"0000001c 0007 810d 0000 00000003 0102 4106 42454e434831 4106 303030303031",
+                Call::Expiry(1),
+                "0000001c 0007 810d 0000 00000003 0102 4106 42454e434831 4106 303030303031",
                 &[],
             ),
         ],
@@ -104,24 +102,23 @@ fn no_reply_in_time(rt: HostRuntime) -> Result<(), Fail> {
 fn host_establishes(rt: HostRuntime) -> Result<(), Fail> {
     let counts = run(
         &rt,
-        rt.alloc(),
         SETTINGS,
         Stage::Started,
         &[
             // ENABLE; S1,F13 W
             done(
-                Act::Switch(1),
-                b"0000001c 0007 810d 0000 00000001 0102 4106 42454e434831 4106 303030303031",
+                Call::Switch(1),
+                "0000001c 0007 810d 0000 00000001 0102 4106 42454e434831 4106 303030303031",
                 &[],
             ),
             // the host's S1,F13 W; S1,F14: L,2 B 0, L,2 A "BENCH1" A "000001"
             done(
-                Act::Host(b"0007 810d 0000 000000aa"),
-                b"00000021 0007 010e 0000 000000aa 0102 210100 0102 4106 42454e434831 4106 303030303031",
+                Act::Frame("0007 810d 0000 000000aa"),
+                "00000021 0007 010e 0000 000000aa 0102 210100 0102 4106 42454e434831 4106 303030303031",
                 &[],
             ),
             // ONLINE; S1,F1 W
-            done(Act::Switch(3), b"0000000a 0007 8101 0000 00000002", &[]),
+            done(Call::Switch(3), "0000000a 0007 8101 0000 00000002", &[]),
         ],
     )?;
     assert_eq!(rt; counts, (0, 0));
@@ -133,21 +130,20 @@ fn host_establishes(rt: HostRuntime) -> Result<(), Fail> {
 fn host_establishes_in_delay(rt: HostRuntime) -> Result<(), Fail> {
     let counts = run(
         &rt,
-        rt.alloc(),
         SETTINGS,
         Stage::Started,
         &[
             // ENABLE; S1,F13 W
             done(
-                Act::Switch(1),
-                b"0000001c 0007 810d 0000 00000001 0102 4106 42454e434831 4106 303030303031",
+                Call::Switch(1),
+                "0000001c 0007 810d 0000 00000001 0102 4106 42454e434831 4106 303030303031",
                 &[],
             ),
-            done(Act::Expiry(2), b"", &[]),
+            done(Call::Expiry(2), "", &[]),
             // the host's S1,F13
-            done(Act::Host(b"0007 010d 0000 000000aa"), b"", &[]),
+            done(Act::Frame("0007 010d 0000 000000aa"), "", &[]),
             // ONLINE; S1,F1 W
-            done(Act::Switch(3), b"0000000a 0007 8101 0000 00000002", &[]),
+            done(Call::Switch(3), "0000000a 0007 8101 0000 00000002", &[]),
         ],
     )?;
     assert_eq!(rt; counts, (0, 0));
@@ -159,20 +155,19 @@ fn host_establishes_in_delay(rt: HostRuntime) -> Result<(), Fail> {
 fn accepted(rt: HostRuntime) -> Result<(), Fail> {
     let counts = run(
         &rt,
-        rt.alloc(),
         SETTINGS,
         Stage::Started,
         &[
             // ENABLE; S1,F13 W
             done(
-                Act::Switch(1),
-                b"0000001c 0007 810d 0000 00000001 0102 4106 42454e434831 4106 303030303031",
+                Call::Switch(1),
+                "0000001c 0007 810d 0000 00000001 0102 4106 42454e434831 4106 303030303031",
                 &[],
             ),
             // the host's S1,F14
-            done(Act::Host(b"0007 010e 0000 00000001 0102 210100"), b"", &[]),
+            done(Act::Frame("0007 010e 0000 00000001 0102 210100"), "", &[]),
             // ONLINE; S1,F1 W
-            done(Act::Switch(3), b"0000000a 0007 8101 0000 00000002", &[]),
+            done(Call::Switch(3), "0000000a 0007 8101 0000 00000002", &[]),
         ],
     )?;
     assert_eq!(rt; counts, (0, 0));
@@ -184,28 +179,27 @@ fn accepted(rt: HostRuntime) -> Result<(), Fail> {
 fn denied(rt: HostRuntime) -> Result<(), Fail> {
     let counts = run(
         &rt,
-        rt.alloc(),
         SETTINGS,
         Stage::Started,
         &[
             // ENABLE; S1,F13 W
             done(
-                Act::Switch(1),
-                b"0000001c 0007 810d 0000 00000001 0102 4106 42454e434831 4106 303030303031",
+                Call::Switch(1),
+                "0000001c 0007 810d 0000 00000001 0102 4106 42454e434831 4106 303030303031",
                 &[],
             ),
             // the host's S1,F14
             done(
-                Act::Host(b"0007 010e 0000 00000001 0102 210101 0100"),
-                b"",
+                Act::Frame("0007 010e 0000 00000001 0102 210101 0100"),
+                "",
                 &[],
             ),
             // ONLINE
-            done(Act::Switch(3), b"", &[]),
+            done(Call::Switch(3), "", &[]),
             // S1,F13 W
             done(
-                Act::Expiry(1),
-                b"0000001c 0007 810d 0000 00000002 0102 4106 42454e434831 4106 303030303031",
+                Call::Expiry(1),
+                "0000001c 0007 810d 0000 00000002 0102 4106 42454e434831 4106 303030303031",
                 &[],
             ),
         ],
@@ -219,38 +213,33 @@ fn denied(rt: HostRuntime) -> Result<(), Fail> {
 fn malformed(rt: HostRuntime) -> Result<(), Fail> {
     let counts = run(
         &rt,
-        rt.alloc(),
         SETTINGS,
         Stage::Started,
         &[
             // ENABLE; S1,F13 W
             done(
-                Act::Switch(1),
-                b"0000001c 0007 810d 0000 00000001 0102 4106 42454e434831 4106 303030303031",
+                Call::Switch(1),
+                "0000001c 0007 810d 0000 00000001 0102 4106 42454e434831 4106 303030303031",
                 &[],
             ),
             // the host's S1,F14
-            done(Act::Host(b"0007 010e 0000 00000001"), b"", &[]),
+            done(Act::Frame("0007 010e 0000 00000001"), "", &[]),
             // the host's S1,F14
-            done(Act::Host(b"0007 010e 0000 00000001 0103 210100"), b"", &[]),
+            done(Act::Frame("0007 010e 0000 00000001 0103 210100"), "", &[]),
             // the host's S1,F14
-            done(
-                Act::Host(b"0007 010e 0000 00000001 0102 21020000"),
-                b"",
-                &[],
-            ),
+            done(Act::Frame("0007 010e 0000 00000001 0102 21020000"), "", &[]),
             // the host's S1,F14
-            done(Act::Host(b"0007 010e 0000 00000001 0102 410100"), b"", &[]),
+            done(Act::Frame("0007 010e 0000 00000001 0102 410100"), "", &[]),
             // ONLINE
-            done(Act::Switch(3), b"", &[]),
+            done(Call::Switch(3), "", &[]),
             // the host's S1,F14
             done(
-                Act::Host(b"0007 010e 0000 00000001 0102 210100 0100"),
-                b"",
+                Act::Frame("0007 010e 0000 00000001 0102 210100 0100"),
+                "",
                 &[],
             ),
             // ONLINE; S1,F1 W
-            done(Act::Switch(3), b"0000000a 0007 8101 0000 00000002", &[]),
+            done(Call::Switch(3), "0000000a 0007 8101 0000 00000002", &[]),
         ],
     )?;
     assert_eq!(rt; counts, (0, 0));
@@ -262,30 +251,29 @@ fn malformed(rt: HostRuntime) -> Result<(), Fail> {
 fn discarded(rt: HostRuntime) -> Result<(), Fail> {
     let counts = run(
         &rt,
-        rt.alloc(),
         SETTINGS,
         Stage::Started,
         &[
             // ENABLE; S1,F13 W
             done(
-                Act::Switch(1),
-                b"0000001c 0007 810d 0000 00000001 0102 4106 42454e434831 4106 303030303031",
+                Call::Switch(1),
+                "0000001c 0007 810d 0000 00000001 0102 4106 42454e434831 4106 303030303031",
                 &[],
             ),
             // the host's S1,F14
-            done(Act::Host(b"0007 010e 0000 00000002 0102 210100"), b"", &[]),
+            done(Act::Frame("0007 010e 0000 00000002 0102 210100"), "", &[]),
             // the host's S1,F0
-            done(Act::Host(b"0007 0100 0000 00000001"), b"", &[]),
+            done(Act::Frame("0007 0100 0000 00000001"), "", &[]),
             // the host's S1,F1 W
-            done(Act::Host(b"0007 8101 0000 000000aa"), b"", &[]),
+            done(Act::Frame("0007 8101 0000 000000aa"), "", &[]),
             // the host's S6,F23 W
-            done(Act::Host(b"0007 8617 0000 000000aa"), b"", &[]),
+            done(Act::Frame("0007 8617 0000 000000aa"), "", &[]),
             // ONLINE
-            done(Act::Switch(3), b"", &[]),
+            done(Call::Switch(3), "", &[]),
             // the host's S1,F14
-            done(Act::Host(b"0007 010e 0000 00000001 0102 210100"), b"", &[]),
+            done(Act::Frame("0007 010e 0000 00000001 0102 210100"), "", &[]),
             // ONLINE; S1,F1 W
-            done(Act::Switch(3), b"0000000a 0007 8101 0000 00000002", &[]),
+            done(Call::Switch(3), "0000000a 0007 8101 0000 00000002", &[]),
         ],
     )?;
     assert_eq!(rt; counts, (0, 0));
@@ -297,28 +285,27 @@ fn discarded(rt: HostRuntime) -> Result<(), Fail> {
 fn any_frame_ends_the_delay(rt: HostRuntime) -> Result<(), Fail> {
     let counts = run(
         &rt,
-        rt.alloc(),
         SETTINGS,
         Stage::Started,
         &[
             // ENABLE; S1,F13 W
             done(
-                Act::Switch(1),
-                b"0000001c 0007 810d 0000 00000001 0102 4106 42454e434831 4106 303030303031",
+                Call::Switch(1),
+                "0000001c 0007 810d 0000 00000001 0102 4106 42454e434831 4106 303030303031",
                 &[],
             ),
-            done(Act::Expiry(2), b"", &[]),
+            done(Call::Expiry(2), "", &[]),
             // the host's S1,F14; S1,F13 W
             done(
-                Act::Host(b"0007 010e 0000 00000001 0102 210100"),
-                b"0000001c 0007 810d 0000 00000002 0102 4106 42454e434831 4106 303030303031",
+                Act::Frame("0007 010e 0000 00000001 0102 210100"),
+                "0000001c 0007 810d 0000 00000002 0102 4106 42454e434831 4106 303030303031",
                 &[],
             ),
-            done(Act::Expiry(2), b"", &[]),
+            done(Call::Expiry(2), "", &[]),
             // the host's S3,F1 W; S1,F13 W
             done(
-                Act::Host(b"0007 8301 0000 000000aa"),
-                b"0000001c 0007 810d 0000 00000003 0102 4106 42454e434831 4106 303030303031",
+                Act::Frame("0007 8301 0000 000000aa"),
+                "0000001c 0007 810d 0000 00000003 0102 4106 42454e434831 4106 303030303031",
                 &[],
             ),
         ],
@@ -332,27 +319,26 @@ fn any_frame_ends_the_delay(rt: HostRuntime) -> Result<(), Fail> {
 fn wrong_session_in_delay(rt: HostRuntime) -> Result<(), Fail> {
     let counts = run(
         &rt,
-        rt.alloc(),
         SETTINGS,
         Stage::Started,
         &[
             // ENABLE; S1,F13 W
             done(
-                Act::Switch(1),
-                b"0000001c 0007 810d 0000 00000001 0102 4106 42454e434831 4106 303030303031",
+                Call::Switch(1),
+                "0000001c 0007 810d 0000 00000001 0102 4106 42454e434831 4106 303030303031",
                 &[],
             ),
-            done(Act::Expiry(2), b"", &[]),
+            done(Call::Expiry(2), "", &[]),
             // the host's S1,F1 W; S9,F1: the header of the frame at fault
             answers(
-                Act::Host(b"0008 8101 0000 000000aa"),
+                Act::Frame("0008 8101 0000 000000aa"),
                 (20, 0),
-                b"00000016 0007 0901 0000 00000002 210a 0008 8101 0000 000000aa",
+                "00000016 0007 0901 0000 00000002 210a 0008 8101 0000 000000aa",
             ),
             // S1,F13 W
             done(
-                Act::Expiry(1),
-                b"0000001c 0007 810d 0000 00000003 0102 4106 42454e434831 4106 303030303031",
+                Call::Expiry(1),
+                "0000001c 0007 810d 0000 00000003 0102 4106 42454e434831 4106 303030303031",
                 &[],
             ),
         ],
@@ -366,20 +352,19 @@ fn wrong_session_in_delay(rt: HostRuntime) -> Result<(), Fail> {
 fn disabled_ignores(rt: HostRuntime) -> Result<(), Fail> {
     let counts = run(
         &rt,
-        rt.alloc(),
         SETTINGS,
         Stage::Started,
         &[
             // the host's S1,F13 W
-            done(Act::Host(b"0007 810d 0000 000000aa"), b"", &[]),
+            done(Act::Frame("0007 810d 0000 000000aa"), "", &[]),
             // the host's S1,F13 W
-            done(Act::Host(b"0008 810d 0000 000000aa"), b"", &[]),
+            done(Act::Frame("0008 810d 0000 000000aa"), "", &[]),
             // the host's S3,F1 W
-            done(Act::Host(b"0007 8301 0000 000000aa"), b"", &[]),
+            done(Act::Frame("0007 8301 0000 000000aa"), "", &[]),
             // ENABLE; S1,F13 W
             done(
-                Act::Switch(1),
-                b"0000001c 0007 810d 0000 00000001 0102 4106 42454e434831 4106 303030303031",
+                Call::Switch(1),
+                "0000001c 0007 810d 0000 00000001 0102 4106 42454e434831 4106 303030303031",
                 &[],
             ),
         ],
@@ -393,32 +378,31 @@ fn disabled_ignores(rt: HostRuntime) -> Result<(), Fail> {
 fn disable_closes(rt: HostRuntime) -> Result<(), Fail> {
     let counts = run(
         &rt,
-        rt.alloc(),
         SETTINGS,
         Stage::Started,
         &[
             // ENABLE; S1,F13 W
             done(
-                Act::Switch(1),
-                b"0000001c 0007 810d 0000 00000001 0102 4106 42454e434831 4106 303030303031",
+                Call::Switch(1),
+                "0000001c 0007 810d 0000 00000001 0102 4106 42454e434831 4106 303030303031",
                 &[],
             ),
             // DISABLE
-            done(Act::Switch(2), b"", &[]),
+            done(Call::Switch(2), "", &[]),
             // ENABLE; S1,F13 W
             done(
-                Act::Switch(1),
-                b"0000001c 0007 810d 0000 00000002 0102 4106 42454e434831 4106 303030303031",
+                Call::Switch(1),
+                "0000001c 0007 810d 0000 00000002 0102 4106 42454e434831 4106 303030303031",
                 &[],
             ),
             // the host's S1,F14
-            done(Act::Host(b"0007 010e 0000 00000001 0102 210100"), b"", &[]),
+            done(Act::Frame("0007 010e 0000 00000001 0102 210100"), "", &[]),
             // ONLINE
-            done(Act::Switch(3), b"", &[]),
+            done(Call::Switch(3), "", &[]),
             // the host's S1,F14
-            done(Act::Host(b"0007 010e 0000 00000002 0102 210100"), b"", &[]),
+            done(Act::Frame("0007 010e 0000 00000002 0102 210100"), "", &[]),
             // ONLINE; S1,F1 W
-            done(Act::Switch(3), b"0000000a 0007 8101 0000 00000003", &[]),
+            done(Call::Switch(3), "0000000a 0007 8101 0000 00000003", &[]),
         ],
     )?;
     assert_eq!(rt; counts, (0, 0));

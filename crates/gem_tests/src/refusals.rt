@@ -1,5 +1,7 @@
 // Calls that are refused.
 use crate::driver::{Act, SETTINGS, Stage, answers, run, run_with};
+use gem::equipment::Call;
+use std::process::Abort;
 use std::test::Fail;
 use zone::variable::Sample;
 
@@ -8,18 +10,17 @@ use zone::variable::Sample;
 fn unknown_numbers(rt: HostRuntime) -> Result<(), Fail> {
     let counts = run(
         &rt,
-        rt.alloc(),
         SETTINGS,
         Stage::Started,
         &[
-            answers(Act::Switch(0), (5, 0), b""),
-            answers(Act::Switch(7), (5, 7), b""),
-            answers(Act::Switch(4294967295), (5, 4294967295), b""),
-            answers(Act::Expiry(0), (5, 0), b""),
-            answers(Act::Expiry(4), (5, 4), b""),
-            answers(Act::Alarm(2, true), (5, 2), b""),
-            answers(Act::Alarm(0, false), (5, 0), b""),
-            answers(Act::Alarm(33, true), (5, 33), b""),
+            answers(Call::Switch(0), (5, 0), ""),
+            answers(Call::Switch(7), (5, 7), ""),
+            answers(Call::Switch(4294967295), (5, 4294967295), ""),
+            answers(Call::Expiry(0), (5, 0), ""),
+            answers(Call::Expiry(4), (5, 4), ""),
+            answers(Call::Alarm(2, true), (5, 2), ""),
+            answers(Call::Alarm(0, false), (5, 0), ""),
+            answers(Call::Alarm(33, true), (5, 33), ""),
         ],
     )?;
     assert_eq!(rt; counts, (0, 0));
@@ -31,17 +32,16 @@ fn unknown_numbers(rt: HostRuntime) -> Result<(), Fail> {
 fn samples(rt: HostRuntime) -> Result<(), Fail> {
     let counts = run(
         &rt,
-        rt.alloc(),
         SETTINGS,
         Stage::Started,
         &[
-            answers(Act::Sample(3, Sample::Real(f32::NAN)), (5, 3), b""),
-            answers(Act::Sample(0, Sample::Whole(1)), (5, 0), b""),
-            answers(Act::Sample(33, Sample::Whole(1)), (5, 33), b""),
-            answers(Act::Sample(1, Sample::Real(1.0)), (6, 1), b""),
-            answers(Act::Sample(1, Sample::Real(f32::NAN)), (6, 1), b""),
-            answers(Act::Sample(2, Sample::Whole(1)), (6, 2), b""),
-            answers(Act::Sample(2, Sample::Real(f32::NAN)), (7, 2), b""),
+            answers(Call::Sample(3, Sample::Real(f32::NAN)), (5, 3), ""),
+            answers(Call::Sample(0, Sample::Whole(1)), (5, 0), ""),
+            answers(Call::Sample(33, Sample::Whole(1)), (5, 33), ""),
+            answers(Call::Sample(1, Sample::Real(1.0)), (6, 1), ""),
+            answers(Call::Sample(1, Sample::Real(f32::NAN)), (6, 1), ""),
+            answers(Call::Sample(2, Sample::Whole(1)), (6, 2), ""),
+            answers(Call::Sample(2, Sample::Real(f32::NAN)), (7, 2), ""),
         ],
     )?;
     assert_eq!(rt; counts, (0, 0));
@@ -53,14 +53,13 @@ fn samples(rt: HostRuntime) -> Result<(), Fail> {
 fn frame_lengths(rt: HostRuntime) -> Result<(), Fail> {
     let counts = run(
         &rt,
-        rt.alloc(),
         SETTINGS,
         Stage::Ready,
         &[
-            answers(Act::Host(b""), (8, 0), b""),
-            answers(Act::Host(b"0007 8101 0101 000000"), (8, 9), b""),
-            answers(Act::Zeros(491), (8, 491), b""),
-            answers(Act::Zeros(512), (8, 512), b""),
+            answers(Act::Frame(""), (8, 0), ""),
+            answers(Act::Frame("0007 8101 0101 000000"), (8, 9), ""),
+            answers(Call::Host(&[0; 491]), (8, 491), ""),
+            answers(Call::Host(&[0; 512]), (8, 512), ""),
         ],
     )?;
     assert_eq!(rt; counts, (0, 0));
@@ -72,15 +71,14 @@ fn frame_lengths(rt: HostRuntime) -> Result<(), Fail> {
 fn longest_frame(rt: HostRuntime) -> Result<(), Fail> {
     let counts = run(
         &rt,
-        rt.alloc(),
         SETTINGS,
         Stage::Ready,
         &[
             // S9,F1: the header of the frame at fault
             answers(
-                Act::Zeros(490),
+                Call::Host(&[0; 490]),
                 (20, 0),
-                b"00000016 0007 0901 0000 00000004 210a 0000 0000 0000 00000000",
+                "00000016 0007 0901 0000 00000004 210a 0000 0000 0000 00000000",
             ),
         ],
     )?;
@@ -93,61 +91,46 @@ fn longest_frame(rt: HostRuntime) -> Result<(), Fail> {
 fn header_bytes(rt: HostRuntime) -> Result<(), Fail> {
     let counts = run(
         &rt,
-        rt.alloc(),
         SETTINGS,
         Stage::Started,
         &[
-            answers(Act::Host(b"0007 8101 0100 00000001"), (9, 4), b""),
-            answers(Act::Host(b"0007 8101 0001 00000001"), (9, 5), b""),
-            answers(Act::Host(b"0008 8301 ff80 00000001"), (9, 4), b""),
+            answers(Act::Frame("0007 8101 0100 00000001"), (9, 4), ""),
+            answers(Act::Frame("0007 8101 0001 00000001"), (9, 5), ""),
+            answers(Act::Frame("0008 8301 ff80 00000001"), (9, 4), ""),
         ],
     )?;
     assert_eq!(rt; counts, (0, 0));
     Ok(())
 }
 
-// An equipment that was started on an unfit queue answers every call with 1.
+// An equipment that was started on stores of these capacities answers every call with 1.
+fn answers_unfit(rt: &(impl Abort + AllocGlobal), capacities: (usize, usize)) -> Result<(), Fail> {
+    let counts = run_with(
+        rt,
+        capacities,
+        SETTINGS,
+        Stage::Started,
+        &[
+            answers(Act::Frame(""), (1, 0), ""),
+            answers(Call::Switch(1), (1, 0), ""),
+            answers(Call::Expiry(9), (1, 0), ""),
+            answers(Call::Failure, (1, 0), ""),
+            answers(Call::Sample(1, Sample::Whole(1)), (1, 0), ""),
+            answers(Call::Alarm(1, true), (1, 0), ""),
+            answers(Call::Pump, (1, 0), ""),
+            answers(Call::Power, (1, 0), ""),
+        ],
+    )?;
+    assert_eq!(rt; counts, (0, 0));
+    Ok(())
+}
+
 #[test]
 fn unfit(rt: HostRuntime) -> Result<(), Fail> {
-    let counts = run_with(
-        &rt,
-        rt.alloc(),
-        (9, 2),
-        SETTINGS,
-        Stage::Started,
-        &[
-            answers(Act::Host(b""), (1, 0), b""),
-            answers(Act::Switch(1), (1, 0), b""),
-            answers(Act::Expiry(9), (1, 0), b""),
-            answers(Act::Failure, (1, 0), b""),
-            answers(Act::Sample(1, Sample::Whole(1)), (1, 0), b""),
-            answers(Act::Alarm(1, true), (1, 0), b""),
-            answers(Act::Pump, (1, 0), b""),
-        ],
-    )?;
-    assert_eq!(rt; counts, (0, 0));
-    Ok(())
+    answers_unfit(&rt, (9, 2))
 }
 
-// The same on an unfit spool.
 #[test]
 fn unfit_spool(rt: HostRuntime) -> Result<(), Fail> {
-    let counts = run_with(
-        &rt,
-        rt.alloc(),
-        (2, 0),
-        SETTINGS,
-        Stage::Started,
-        &[
-            answers(Act::Host(b""), (1, 0), b""),
-            answers(Act::Switch(1), (1, 0), b""),
-            answers(Act::Expiry(9), (1, 0), b""),
-            answers(Act::Failure, (1, 0), b""),
-            answers(Act::Sample(1, Sample::Whole(1)), (1, 0), b""),
-            answers(Act::Alarm(1, true), (1, 0), b""),
-            answers(Act::Pump, (1, 0), b""),
-        ],
-    )?;
-    assert_eq!(rt; counts, (0, 0));
-    Ok(())
+    answers_unfit(&rt, (2, 0))
 }

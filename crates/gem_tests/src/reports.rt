@@ -1,5 +1,6 @@
 // Reports in the queue.
 use crate::driver::{Act, SETTINGS, Stage, done, run};
+use gem::equipment::Call;
 use std::test::Fail;
 
 // Only the reply of the right stream, function and number removes the open report.
@@ -7,28 +8,27 @@ use std::test::Fail;
 fn acknowledgement(rt: HostRuntime) -> Result<(), Fail> {
     let counts = run(
         &rt,
-        rt.alloc(),
         SETTINGS,
         Stage::Online,
         &[
             // S6,F11 W: report 1, event 3
             done(
-                Act::Pump,
-                b"0000001a 0007 860b 0000 00000003 0103 b10400000001 b10400000003 0100",
+                Call::Pump,
+                "0000001a 0007 860b 0000 00000003 0103 b10400000001 b10400000003 0100",
                 &[],
             ),
-            done(Act::Pump, b"", &[]),
+            done(Call::Pump, "", &[]),
             // the host's S5,F2
-            done(Act::Host(b"0007 0502 0000 00000003"), b"", &[]),
+            done(Act::Frame("0007 0502 0000 00000003"), "", &[]),
             // the host's S6,F12
-            done(Act::Host(b"0007 060c 0000 00000002"), b"", &[]),
+            done(Act::Frame("0007 060c 0000 00000002"), "", &[]),
             // the host's S6,F14
-            done(Act::Host(b"0007 060e 0000 00000003"), b"", &[]),
+            done(Act::Frame("0007 060e 0000 00000003"), "", &[]),
             // the host's S6,F12
-            done(Act::Host(b"0007 060c 0000 00000003"), b"", &[(b'A', 1)]),
+            done(Act::Frame("0007 060c 0000 00000003"), "", &[(b'A', 1)]),
             // the host's S6,F12
-            done(Act::Host(b"0007 060c 0000 00000003"), b"", &[]),
-            done(Act::Pump, b"", &[]),
+            done(Act::Frame("0007 060c 0000 00000003"), "", &[]),
+            done(Call::Pump, "", &[]),
         ],
     )?;
     assert_eq!(rt; counts, (0, 0));
@@ -40,42 +40,41 @@ fn acknowledgement(rt: HostRuntime) -> Result<(), Fail> {
 fn sent_again(rt: HostRuntime) -> Result<(), Fail> {
     let counts = run(
         &rt,
-        rt.alloc(),
         SETTINGS,
         Stage::Online,
         &[
-            done(Act::Expiry(3), b"", &[]),
+            done(Call::Expiry(3), "", &[]),
             // S6,F11 W: report 1, event 3
             done(
-                Act::Pump,
-                b"0000001a 0007 860b 0000 00000003 0103 b10400000001 b10400000003 0100",
+                Call::Pump,
+                "0000001a 0007 860b 0000 00000003 0103 b10400000001 b10400000003 0100",
                 &[],
             ),
             // the host's S6,F0
-            done(Act::Host(b"0007 0600 0000 00000003"), b"", &[]),
+            done(Act::Frame("0007 0600 0000 00000003"), "", &[]),
             // S6,F11 W: report 1, event 3
             done(
-                Act::Pump,
-                b"0000001a 0007 860b 0000 00000004 0103 b10400000001 b10400000003 0100",
+                Call::Pump,
+                "0000001a 0007 860b 0000 00000004 0103 b10400000001 b10400000003 0100",
                 &[],
             ),
             // S9,F9: the header of the report
             done(
-                Act::Expiry(3),
-                b"00000016 0007 0909 0000 00000005 210a 0007 860b 0000 00000004",
+                Call::Expiry(3),
+                "00000016 0007 0909 0000 00000005 210a 0007 860b 0000 00000004",
                 &[],
             ),
-            done(Act::Expiry(3), b"", &[]),
+            done(Call::Expiry(3), "", &[]),
             // S6,F11 W: report 1, event 3
             done(
-                Act::Pump,
-                b"0000001a 0007 860b 0000 00000006 0103 b10400000001 b10400000003 0100",
+                Call::Pump,
+                "0000001a 0007 860b 0000 00000006 0103 b10400000001 b10400000003 0100",
                 &[],
             ),
             // the host's S6,F12
-            done(Act::Host(b"0007 060c 0000 00000004"), b"", &[]),
+            done(Act::Frame("0007 060c 0000 00000004"), "", &[]),
             // the host's S6,F12
-            done(Act::Host(b"0007 060c 0000 00000006"), b"", &[(b'A', 1)]),
+            done(Act::Frame("0007 060c 0000 00000006"), "", &[(b'A', 1)]),
         ],
     )?;
     assert_eq!(rt; counts, (0, 0));
@@ -87,20 +86,19 @@ fn sent_again(rt: HostRuntime) -> Result<(), Fail> {
 fn disable_drops(rt: HostRuntime) -> Result<(), Fail> {
     let counts = run(
         &rt,
-        rt.alloc(),
         SETTINGS,
         Stage::Online,
         &[
             // LOCAL
-            done(Act::Switch(5), b"", &[(b'M', 2)]),
+            done(Call::Switch(5), "", &[(b'M', 2)]),
             // DISABLE
-            done(Act::Switch(2), b"", &[(b'D', 1), (b'D', 2)]),
+            done(Call::Switch(2), "", &[(b'D', 1), (b'D', 2)]),
             done(
-                Act::Alarm(1, true),
-                b"",
+                Call::Alarm(1, true),
+                "",
                 &[(b'M', 3), (b'D', 3), (b'M', 4), (b'D', 4)],
             ),
-            done(Act::Pump, b"", &[]),
+            done(Call::Pump, "", &[]),
         ],
     )?;
     assert_eq!(rt; counts, (0, 0));
@@ -112,20 +110,19 @@ fn disable_drops(rt: HostRuntime) -> Result<(), Fail> {
 fn full_queue(rt: HostRuntime) -> Result<(), Fail> {
     let counts = run(
         &rt,
-        rt.alloc(),
         SETTINGS,
         Stage::Ready,
         &[
-            done(Act::Alarm(1, true), b"", &[(b'M', 2), (b'M', 3)]),
+            done(Call::Alarm(1, true), "", &[(b'M', 2), (b'M', 3)]),
             done(
-                Act::Alarm(32, true),
-                b"",
+                Call::Alarm(32, true),
+                "",
                 &[(b'M', 4), (b'D', 4), (b'M', 5), (b'D', 5)],
             ),
             // S5,F1 W: ALCD 132, alarm 1
             done(
-                Act::Pump,
-                b"00000017 0007 8501 0000 00000004 0103 210184 b10400000001 4100",
+                Call::Pump,
+                "00000017 0007 8501 0000 00000004 0103 210184 b10400000001 4100",
                 &[],
             ),
         ],
@@ -139,34 +136,33 @@ fn full_queue(rt: HostRuntime) -> Result<(), Fail> {
 fn disable_closes_the_report(rt: HostRuntime) -> Result<(), Fail> {
     let counts = run(
         &rt,
-        rt.alloc(),
         SETTINGS,
         Stage::Online,
         &[
             // S6,F11 W: report 1, event 3
             done(
-                Act::Pump,
-                b"0000001a 0007 860b 0000 00000003 0103 b10400000001 b10400000003 0100",
+                Call::Pump,
+                "0000001a 0007 860b 0000 00000003 0103 b10400000001 b10400000003 0100",
                 &[],
             ),
             // DISABLE
-            done(Act::Switch(2), b"", &[(b'D', 1)]),
+            done(Call::Switch(2), "", &[(b'D', 1)]),
             // ENABLE; S1,F13 W
             done(
-                Act::Switch(1),
-                b"0000001c 0007 810d 0000 00000004 0102 4106 42454e434831 4106 303030303031",
+                Call::Switch(1),
+                "0000001c 0007 810d 0000 00000004 0102 4106 42454e434831 4106 303030303031",
                 &[],
             ),
             // the host's S1,F14
-            done(Act::Host(b"0007 010e 0000 00000004 0102 210100"), b"", &[]),
+            done(Act::Frame("0007 010e 0000 00000004 0102 210100"), "", &[]),
             // the host's S6,F12
-            done(Act::Host(b"0007 060c 0000 00000003"), b"", &[]),
+            done(Act::Frame("0007 060c 0000 00000003"), "", &[]),
             // LOCAL
-            done(Act::Switch(5), b"", &[(b'M', 2)]),
+            done(Call::Switch(5), "", &[(b'M', 2)]),
             // S6,F11 W: report 2, event 2
             done(
-                Act::Pump,
-                b"0000001a 0007 860b 0000 00000005 0103 b10400000002 b10400000002 0100",
+                Call::Pump,
+                "0000001a 0007 860b 0000 00000005 0103 b10400000002 b10400000002 0100",
                 &[],
             ),
         ],

@@ -1,5 +1,6 @@
 // The spool.
 use crate::driver::{Act, ONE_AT_MOST, OVERWRITE, SETTINGS, Stage, done, run};
+use gem::equipment::Call;
 use std::test::Fail;
 
 // A failure activates the spool: the queue goes there, then event 4.
@@ -7,17 +8,16 @@ use std::test::Fail;
 fn activated(rt: HostRuntime) -> Result<(), Fail> {
     let counts = run(
         &rt,
-        rt.alloc(),
         SETTINGS,
         Stage::Online,
         &[
             // S1,F13 W
             done(
-                Act::Failure,
-                b"0000001c 0007 810d 0000 00000003 0102 4106 42454e434831 4106 303030303031",
+                Call::Failure,
+                "0000001c 0007 810d 0000 00000003 0102 4106 42454e434831 4106 303030303031",
                 &[(b'M', 2)],
             ),
-            done(Act::Pump, b"", &[]),
+            done(Call::Pump, "", &[]),
         ],
     )?;
     assert_eq!(rt; counts, (0, 2));
@@ -29,19 +29,18 @@ fn activated(rt: HostRuntime) -> Result<(), Fail> {
 fn turned_away(rt: HostRuntime) -> Result<(), Fail> {
     let counts = run(
         &rt,
-        rt.alloc(),
         SETTINGS,
         Stage::Online,
         &[
             // S1,F13 W
             done(
-                Act::Failure,
-                b"0000001c 0007 810d 0000 00000003 0102 4106 42454e434831 4106 303030303031",
+                Call::Failure,
+                "0000001c 0007 810d 0000 00000003 0102 4106 42454e434831 4106 303030303031",
                 &[(b'M', 2)],
             ),
             done(
-                Act::Alarm(1, true),
-                b"",
+                Call::Alarm(1, true),
+                "",
                 &[(b'M', 3), (b'T', 3), (b'M', 4), (b'T', 4)],
             ),
         ],
@@ -55,19 +54,18 @@ fn turned_away(rt: HostRuntime) -> Result<(), Fail> {
 fn overwritten(rt: HostRuntime) -> Result<(), Fail> {
     let counts = run(
         &rt,
-        rt.alloc(),
         OVERWRITE,
         Stage::Online,
         &[
             // S1,F13 W
             done(
-                Act::Failure,
-                b"0000001c 0007 810d 0000 00000003 0102 4106 42454e434831 4106 303030303031",
+                Call::Failure,
+                "0000001c 0007 810d 0000 00000003 0102 4106 42454e434831 4106 303030303031",
                 &[(b'M', 2)],
             ),
             done(
-                Act::Alarm(1, true),
-                b"",
+                Call::Alarm(1, true),
+                "",
                 &[(b'M', 3), (b'O', 1), (b'M', 4), (b'O', 2)],
             ),
         ],
@@ -81,26 +79,25 @@ fn overwritten(rt: HostRuntime) -> Result<(), Fail> {
 fn activation_closes(rt: HostRuntime) -> Result<(), Fail> {
     let counts = run(
         &rt,
-        rt.alloc(),
         SETTINGS,
         Stage::Online,
         &[
             // S6,F11 W: report 1, event 3
             done(
-                Act::Pump,
-                b"0000001a 0007 860b 0000 00000003 0103 b10400000001 b10400000003 0100",
+                Call::Pump,
+                "0000001a 0007 860b 0000 00000003 0103 b10400000001 b10400000003 0100",
                 &[],
             ),
             // S1,F13 W
             done(
-                Act::Failure,
-                b"0000001c 0007 810d 0000 00000004 0102 4106 42454e434831 4106 303030303031",
+                Call::Failure,
+                "0000001c 0007 810d 0000 00000004 0102 4106 42454e434831 4106 303030303031",
                 &[(b'M', 2)],
             ),
             // the host's S1,F13
-            done(Act::Host(b"0007 010d 0000 000000aa"), b"", &[]),
+            done(Act::Frame("0007 010d 0000 000000aa"), "", &[]),
             // the host's S6,F12
-            done(Act::Host(b"0007 060c 0000 00000003"), b"", &[]),
+            done(Act::Frame("0007 060c 0000 00000003"), "", &[]),
         ],
     )?;
     assert_eq!(rt; counts, (0, 2));
@@ -112,24 +109,23 @@ fn activation_closes(rt: HostRuntime) -> Result<(), Fail> {
 fn activated_in_wait(rt: HostRuntime) -> Result<(), Fail> {
     let counts = run(
         &rt,
-        rt.alloc(),
         SETTINGS,
         Stage::Online,
         &[
             // DISABLE
-            done(Act::Switch(2), b"", &[(b'D', 1)]),
+            done(Call::Switch(2), "", &[(b'D', 1)]),
             // ENABLE; S1,F13 W
             done(
-                Act::Switch(1),
-                b"0000001c 0007 810d 0000 00000003 0102 4106 42454e434831 4106 303030303031",
+                Call::Switch(1),
+                "0000001c 0007 810d 0000 00000003 0102 4106 42454e434831 4106 303030303031",
                 &[],
             ),
-            done(Act::Expiry(2), b"", &[(b'M', 2)]),
-            done(Act::Alarm(1, true), b"", &[(b'M', 3), (b'M', 4), (b'T', 4)]),
+            done(Call::Expiry(2), "", &[(b'M', 2)]),
+            done(Call::Alarm(1, true), "", &[(b'M', 3), (b'M', 4), (b'T', 4)]),
             // S1,F13 W
             done(
-                Act::Expiry(1),
-                b"0000001c 0007 810d 0000 00000004 0102 4106 42454e434831 4106 303030303031",
+                Call::Expiry(1),
+                "0000001c 0007 810d 0000 00000004 0102 4106 42454e434831 4106 303030303031",
                 &[],
             ),
         ],
@@ -143,25 +139,24 @@ fn activated_in_wait(rt: HostRuntime) -> Result<(), Fail> {
 fn activated_by_denial(rt: HostRuntime) -> Result<(), Fail> {
     let counts = run(
         &rt,
-        rt.alloc(),
         SETTINGS,
         Stage::Online,
         &[
             // DISABLE
-            done(Act::Switch(2), b"", &[(b'D', 1)]),
+            done(Call::Switch(2), "", &[(b'D', 1)]),
             // ENABLE; S1,F13 W
             done(
-                Act::Switch(1),
-                b"0000001c 0007 810d 0000 00000003 0102 4106 42454e434831 4106 303030303031",
+                Call::Switch(1),
+                "0000001c 0007 810d 0000 00000003 0102 4106 42454e434831 4106 303030303031",
                 &[],
             ),
             // the host's S1,F14
             done(
-                Act::Host(b"0007 010e 0000 00000003 0102 210101"),
-                b"",
+                Act::Frame("0007 010e 0000 00000003 0102 210101"),
+                "",
                 &[(b'M', 2)],
             ),
-            done(Act::Failure, b"", &[]),
+            done(Call::Failure, "", &[]),
         ],
     )?;
     assert_eq!(rt; counts, (0, 1));
@@ -173,27 +168,26 @@ fn activated_by_denial(rt: HostRuntime) -> Result<(), Fail> {
 fn activated_offline(rt: HostRuntime) -> Result<(), Fail> {
     let counts = run(
         &rt,
-        rt.alloc(),
         SETTINGS,
         Stage::Communicating,
         &[
             // S1,F13 W
             done(
-                Act::Failure,
-                b"0000001c 0007 810d 0000 00000002 0102 4106 42454e434831 4106 303030303031",
+                Call::Failure,
+                "0000001c 0007 810d 0000 00000002 0102 4106 42454e434831 4106 303030303031",
                 &[],
             ),
             // the host's S1,F13
-            done(Act::Host(b"0007 010d 0000 000000aa"), b"", &[]),
+            done(Act::Frame("0007 010d 0000 000000aa"), "", &[]),
             // ONLINE; S1,F1 W
-            done(Act::Switch(3), b"0000000a 0007 8101 0000 00000003", &[]),
+            done(Call::Switch(3), "0000000a 0007 8101 0000 00000003", &[]),
             // the host's S1,F2
-            done(Act::Host(b"0007 0102 0000 00000003"), b"", &[(b'M', 1)]),
-            done(Act::Pump, b"", &[]),
+            done(Act::Frame("0007 0102 0000 00000003"), "", &[(b'M', 1)]),
+            done(Call::Pump, "", &[]),
             // the host's S6,F23 W; S6,F24: B 0
             done(
-                Act::Host(b"0007 8617 0000 000000aa a50100"),
-                b"0000000d 0007 0618 0000 000000aa 210100",
+                Act::Frame("0007 8617 0000 000000aa a50100"),
+                "0000000d 0007 0618 0000 000000aa 210100",
                 &[],
             ),
         ],
@@ -207,25 +201,24 @@ fn activated_offline(rt: HostRuntime) -> Result<(), Fail> {
 fn inactive(rt: HostRuntime) -> Result<(), Fail> {
     let counts = run(
         &rt,
-        rt.alloc(),
         SETTINGS,
         Stage::Ready,
         &[
             // the host's S6,F23 W; S6,F24: B 2
             done(
-                Act::Host(b"0007 8617 0000 000000aa a50100"),
-                b"0000000d 0007 0618 0000 000000aa 210102",
+                Act::Frame("0007 8617 0000 000000aa a50100"),
+                "0000000d 0007 0618 0000 000000aa 210102",
                 &[],
             ),
             // the host's S6,F23 W; S6,F24: B 2
             done(
-                Act::Host(b"0007 8617 0000 000000aa a50101"),
-                b"0000000d 0007 0618 0000 000000aa 210102",
+                Act::Frame("0007 8617 0000 000000aa a50101"),
+                "0000000d 0007 0618 0000 000000aa 210102",
                 &[],
             ),
             // the host's S6,F23
-            done(Act::Host(b"0007 0617 0000 000000aa a50100"), b"", &[]),
-            done(Act::Pump, b"", &[]),
+            done(Act::Frame("0007 0617 0000 000000aa a50100"), "", &[]),
+            done(Call::Pump, "", &[]),
         ],
     )?;
     assert_eq!(rt; counts, (0, 0));
@@ -237,55 +230,54 @@ fn inactive(rt: HostRuntime) -> Result<(), Fail> {
 fn transmit(rt: HostRuntime) -> Result<(), Fail> {
     let counts = run(
         &rt,
-        rt.alloc(),
         SETTINGS,
         Stage::Online,
         &[
             // S1,F13 W
             done(
-                Act::Failure,
-                b"0000001c 0007 810d 0000 00000003 0102 4106 42454e434831 4106 303030303031",
+                Call::Failure,
+                "0000001c 0007 810d 0000 00000003 0102 4106 42454e434831 4106 303030303031",
                 &[(b'M', 2)],
             ),
             // the host's S1,F13
-            done(Act::Host(b"0007 010d 0000 000000aa"), b"", &[]),
+            done(Act::Frame("0007 010d 0000 000000aa"), "", &[]),
             // the host's S6,F23 W; S6,F24: B 0
             done(
-                Act::Host(b"0007 8617 0000 000000aa a50100"),
-                b"0000000d 0007 0618 0000 000000aa 210100",
+                Act::Frame("0007 8617 0000 000000aa a50100"),
+                "0000000d 0007 0618 0000 000000aa 210100",
                 &[],
             ),
             // the host's S6,F23 W; S6,F24: B 1
             done(
-                Act::Host(b"0007 8617 0000 000000aa a50101"),
-                b"0000000d 0007 0618 0000 000000aa 210101",
+                Act::Frame("0007 8617 0000 000000aa a50101"),
+                "0000000d 0007 0618 0000 000000aa 210101",
                 &[],
             ),
             // S6,F11 W: report 1, event 3
             done(
-                Act::Pump,
-                b"0000001a 0007 860b 0000 00000004 0103 b10400000001 b10400000003 0100",
+                Call::Pump,
+                "0000001a 0007 860b 0000 00000004 0103 b10400000001 b10400000003 0100",
                 &[],
             ),
             // the host's S6,F12
-            done(Act::Host(b"0007 060c 0000 00000004"), b"", &[(b'B', 1)]),
+            done(Act::Frame("0007 060c 0000 00000004"), "", &[(b'B', 1)]),
             // S6,F11 W: report 2, event 4
             done(
-                Act::Pump,
-                b"0000001a 0007 860b 0000 00000005 0103 b10400000002 b10400000004 0100",
+                Call::Pump,
+                "0000001a 0007 860b 0000 00000005 0103 b10400000002 b10400000004 0100",
                 &[],
             ),
             // the host's S6,F12
-            done(Act::Host(b"0007 060c 0000 00000005"), b"", &[(b'B', 2)]),
-            done(Act::Pump, b"", &[(b'M', 3)]),
+            done(Act::Frame("0007 060c 0000 00000005"), "", &[(b'B', 2)]),
+            done(Call::Pump, "", &[(b'M', 3)]),
             // S6,F11 W: report 3, event 5
             done(
-                Act::Pump,
-                b"0000001a 0007 860b 0000 00000006 0103 b10400000003 b10400000005 0100",
+                Call::Pump,
+                "0000001a 0007 860b 0000 00000006 0103 b10400000003 b10400000005 0100",
                 &[],
             ),
             // the host's S6,F12
-            done(Act::Host(b"0007 060c 0000 00000006"), b"", &[(b'A', 3)]),
+            done(Act::Frame("0007 060c 0000 00000006"), "", &[(b'A', 3)]),
         ],
     )?;
     assert_eq!(rt; counts, (0, 0));
@@ -297,37 +289,36 @@ fn transmit(rt: HostRuntime) -> Result<(), Fail> {
 fn purge(rt: HostRuntime) -> Result<(), Fail> {
     let counts = run(
         &rt,
-        rt.alloc(),
         SETTINGS,
         Stage::Online,
         &[
             // S1,F13 W
             done(
-                Act::Failure,
-                b"0000001c 0007 810d 0000 00000003 0102 4106 42454e434831 4106 303030303031",
+                Call::Failure,
+                "0000001c 0007 810d 0000 00000003 0102 4106 42454e434831 4106 303030303031",
                 &[(b'M', 2)],
             ),
             // the host's S1,F13
-            done(Act::Host(b"0007 010d 0000 000000aa"), b"", &[]),
+            done(Act::Frame("0007 010d 0000 000000aa"), "", &[]),
             // the host's S6,F23 W; S6,F24: B 0
             done(
-                Act::Host(b"0007 8617 0000 000000aa a50101"),
-                b"0000000d 0007 0618 0000 000000aa 210100",
+                Act::Frame("0007 8617 0000 000000aa a50101"),
+                "0000000d 0007 0618 0000 000000aa 210100",
                 &[],
             ),
             // the host's S6,F23 W; S6,F24: B 1
             done(
-                Act::Host(b"0007 8617 0000 000000aa a50100"),
-                b"0000000d 0007 0618 0000 000000aa 210101",
+                Act::Frame("0007 8617 0000 000000aa a50100"),
+                "0000000d 0007 0618 0000 000000aa 210101",
                 &[],
             ),
-            done(Act::Pump, b"", &[(b'P', 1)]),
-            done(Act::Pump, b"", &[(b'P', 2)]),
-            done(Act::Pump, b"", &[(b'M', 3)]),
+            done(Call::Pump, "", &[(b'P', 1)]),
+            done(Call::Pump, "", &[(b'P', 2)]),
+            done(Call::Pump, "", &[(b'M', 3)]),
             // the host's S6,F23 W; S6,F24: B 2
             done(
-                Act::Host(b"0007 8617 0000 000000aa a50101"),
-                b"0000000d 0007 0618 0000 000000aa 210102",
+                Act::Frame("0007 8617 0000 000000aa a50101"),
+                "0000000d 0007 0618 0000 000000aa 210102",
                 &[],
             ),
         ],
@@ -341,35 +332,34 @@ fn purge(rt: HostRuntime) -> Result<(), Fail> {
 fn purge_goes_on(rt: HostRuntime) -> Result<(), Fail> {
     let counts = run(
         &rt,
-        rt.alloc(),
         SETTINGS,
         Stage::Online,
         &[
             // S1,F13 W
             done(
-                Act::Failure,
-                b"0000001c 0007 810d 0000 00000003 0102 4106 42454e434831 4106 303030303031",
+                Call::Failure,
+                "0000001c 0007 810d 0000 00000003 0102 4106 42454e434831 4106 303030303031",
                 &[(b'M', 2)],
             ),
             // the host's S1,F13
-            done(Act::Host(b"0007 010d 0000 000000aa"), b"", &[]),
+            done(Act::Frame("0007 010d 0000 000000aa"), "", &[]),
             // the host's S6,F23 W; S6,F24: B 0
             done(
-                Act::Host(b"0007 8617 0000 000000aa a50101"),
-                b"0000000d 0007 0618 0000 000000aa 210100",
+                Act::Frame("0007 8617 0000 000000aa a50101"),
+                "0000000d 0007 0618 0000 000000aa 210100",
                 &[],
             ),
             // S1,F13 W
             done(
-                Act::Failure,
-                b"0000001c 0007 810d 0000 00000004 0102 4106 42454e434831 4106 303030303031",
+                Call::Failure,
+                "0000001c 0007 810d 0000 00000004 0102 4106 42454e434831 4106 303030303031",
                 &[],
             ),
-            done(Act::Pump, b"", &[(b'P', 1)]),
+            done(Call::Pump, "", &[(b'P', 1)]),
             // DISABLE
-            done(Act::Switch(2), b"", &[]),
-            done(Act::Pump, b"", &[(b'P', 2)]),
-            done(Act::Pump, b"", &[(b'M', 3), (b'D', 3)]),
+            done(Call::Switch(2), "", &[]),
+            done(Call::Pump, "", &[(b'P', 2)]),
+            done(Call::Pump, "", &[(b'M', 3), (b'D', 3)]),
         ],
     )?;
     assert_eq!(rt; counts, (0, 0));
@@ -381,54 +371,53 @@ fn purge_goes_on(rt: HostRuntime) -> Result<(), Fail> {
 fn maximum(rt: HostRuntime) -> Result<(), Fail> {
     let counts = run(
         &rt,
-        rt.alloc(),
         ONE_AT_MOST,
         Stage::Online,
         &[
             // S1,F13 W
             done(
-                Act::Failure,
-                b"0000001c 0007 810d 0000 00000003 0102 4106 42454e434831 4106 303030303031",
+                Call::Failure,
+                "0000001c 0007 810d 0000 00000003 0102 4106 42454e434831 4106 303030303031",
                 &[(b'M', 2)],
             ),
             // the host's S1,F13
-            done(Act::Host(b"0007 010d 0000 000000aa"), b"", &[]),
+            done(Act::Frame("0007 010d 0000 000000aa"), "", &[]),
             // the host's S6,F23 W; S6,F24: B 0
             done(
-                Act::Host(b"0007 8617 0000 000000aa a50100"),
-                b"0000000d 0007 0618 0000 000000aa 210100",
+                Act::Frame("0007 8617 0000 000000aa a50100"),
+                "0000000d 0007 0618 0000 000000aa 210100",
                 &[],
             ),
             // S6,F11 W: report 1, event 3
             done(
-                Act::Pump,
-                b"0000001a 0007 860b 0000 00000004 0103 b10400000001 b10400000003 0100",
+                Call::Pump,
+                "0000001a 0007 860b 0000 00000004 0103 b10400000001 b10400000003 0100",
                 &[],
             ),
             // the host's S6,F12
-            done(Act::Host(b"0007 060c 0000 00000004"), b"", &[(b'B', 1)]),
+            done(Act::Frame("0007 060c 0000 00000004"), "", &[(b'B', 1)]),
             // the host's S6,F23 W; S6,F24: B 1
             done(
-                Act::Host(b"0007 8617 0000 000000aa a50100"),
-                b"0000000d 0007 0618 0000 000000aa 210101",
+                Act::Frame("0007 8617 0000 000000aa a50100"),
+                "0000000d 0007 0618 0000 000000aa 210101",
                 &[],
             ),
-            done(Act::Pump, b"", &[]),
+            done(Call::Pump, "", &[]),
             // the host's S6,F23 W; S6,F24: B 0
             done(
-                Act::Host(b"0007 8617 0000 000000aa a50100"),
-                b"0000000d 0007 0618 0000 000000aa 210100",
+                Act::Frame("0007 8617 0000 000000aa a50100"),
+                "0000000d 0007 0618 0000 000000aa 210100",
                 &[],
             ),
             // S6,F11 W: report 2, event 4
             done(
-                Act::Pump,
-                b"0000001a 0007 860b 0000 00000005 0103 b10400000002 b10400000004 0100",
+                Call::Pump,
+                "0000001a 0007 860b 0000 00000005 0103 b10400000002 b10400000004 0100",
                 &[],
             ),
             // the host's S6,F12
-            done(Act::Host(b"0007 060c 0000 00000005"), b"", &[(b'B', 2)]),
-            done(Act::Pump, b"", &[(b'M', 3)]),
+            done(Act::Frame("0007 060c 0000 00000005"), "", &[(b'B', 2)]),
+            done(Call::Pump, "", &[(b'M', 3)]),
         ],
     )?;
     assert_eq!(rt; counts, (1, 0));
@@ -440,48 +429,47 @@ fn maximum(rt: HostRuntime) -> Result<(), Fail> {
 fn spooled_again(rt: HostRuntime) -> Result<(), Fail> {
     let counts = run(
         &rt,
-        rt.alloc(),
         SETTINGS,
         Stage::Online,
         &[
             // S1,F13 W
             done(
-                Act::Failure,
-                b"0000001c 0007 810d 0000 00000003 0102 4106 42454e434831 4106 303030303031",
+                Call::Failure,
+                "0000001c 0007 810d 0000 00000003 0102 4106 42454e434831 4106 303030303031",
                 &[(b'M', 2)],
             ),
             // the host's S1,F13
-            done(Act::Host(b"0007 010d 0000 000000aa"), b"", &[]),
+            done(Act::Frame("0007 010d 0000 000000aa"), "", &[]),
             // the host's S6,F23 W; S6,F24: B 0
             done(
-                Act::Host(b"0007 8617 0000 000000aa a50100"),
-                b"0000000d 0007 0618 0000 000000aa 210100",
+                Act::Frame("0007 8617 0000 000000aa a50100"),
+                "0000000d 0007 0618 0000 000000aa 210100",
                 &[],
             ),
             // S6,F11 W: report 1, event 3
             done(
-                Act::Pump,
-                b"0000001a 0007 860b 0000 00000004 0103 b10400000001 b10400000003 0100",
+                Call::Pump,
+                "0000001a 0007 860b 0000 00000004 0103 b10400000001 b10400000003 0100",
                 &[],
             ),
             // S9,F9: the header of the report
             done(
-                Act::Expiry(3),
-                b"00000016 0007 0909 0000 00000005 210a 0007 860b 0000 00000004",
+                Call::Expiry(3),
+                "00000016 0007 0909 0000 00000005 210a 0007 860b 0000 00000004",
                 &[],
             ),
             // S6,F11 W: report 1, event 3
             done(
-                Act::Pump,
-                b"0000001a 0007 860b 0000 00000006 0103 b10400000001 b10400000003 0100",
+                Call::Pump,
+                "0000001a 0007 860b 0000 00000006 0103 b10400000001 b10400000003 0100",
                 &[],
             ),
             // the host's S6,F0
-            done(Act::Host(b"0007 0600 0000 00000006"), b"", &[]),
+            done(Act::Frame("0007 0600 0000 00000006"), "", &[]),
             // S6,F11 W: report 1, event 3
             done(
-                Act::Pump,
-                b"0000001a 0007 860b 0000 00000007 0103 b10400000001 b10400000003 0100",
+                Call::Pump,
+                "0000001a 0007 860b 0000 00000007 0103 b10400000001 b10400000003 0100",
                 &[],
             ),
         ],
@@ -495,40 +483,39 @@ fn spooled_again(rt: HostRuntime) -> Result<(), Fail> {
 fn full_stays(rt: HostRuntime) -> Result<(), Fail> {
     let counts = run(
         &rt,
-        rt.alloc(),
         SETTINGS,
         Stage::Online,
         &[
             // S1,F13 W
             done(
-                Act::Failure,
-                b"0000001c 0007 810d 0000 00000003 0102 4106 42454e434831 4106 303030303031",
+                Call::Failure,
+                "0000001c 0007 810d 0000 00000003 0102 4106 42454e434831 4106 303030303031",
                 &[(b'M', 2)],
             ),
             done(
-                Act::Alarm(1, true),
-                b"",
+                Call::Alarm(1, true),
+                "",
                 &[(b'M', 3), (b'T', 3), (b'M', 4), (b'T', 4)],
             ),
             // the host's S1,F13
-            done(Act::Host(b"0007 010d 0000 000000aa"), b"", &[]),
+            done(Act::Frame("0007 010d 0000 000000aa"), "", &[]),
             // the host's S6,F23 W; S6,F24: B 0
             done(
-                Act::Host(b"0007 8617 0000 000000aa a50100"),
-                b"0000000d 0007 0618 0000 000000aa 210100",
+                Act::Frame("0007 8617 0000 000000aa a50100"),
+                "0000000d 0007 0618 0000 000000aa 210100",
                 &[],
             ),
             // S6,F11 W: report 1, event 3
             done(
-                Act::Pump,
-                b"0000001a 0007 860b 0000 00000004 0103 b10400000001 b10400000003 0100",
+                Call::Pump,
+                "0000001a 0007 860b 0000 00000004 0103 b10400000001 b10400000003 0100",
                 &[],
             ),
             // the host's S6,F12
-            done(Act::Host(b"0007 060c 0000 00000004"), b"", &[(b'B', 1)]),
+            done(Act::Frame("0007 060c 0000 00000004"), "", &[(b'B', 1)]),
             done(
-                Act::Alarm(1, false),
-                b"",
+                Call::Alarm(1, false),
+                "",
                 &[(b'M', 5), (b'T', 5), (b'M', 6), (b'T', 6)],
             ),
         ],
@@ -542,39 +529,38 @@ fn full_stays(rt: HostRuntime) -> Result<(), Fail> {
 fn full_with_overwriting(rt: HostRuntime) -> Result<(), Fail> {
     let counts = run(
         &rt,
-        rt.alloc(),
         OVERWRITE,
         Stage::Online,
         &[
             // S1,F13 W
             done(
-                Act::Failure,
-                b"0000001c 0007 810d 0000 00000003 0102 4106 42454e434831 4106 303030303031",
+                Call::Failure,
+                "0000001c 0007 810d 0000 00000003 0102 4106 42454e434831 4106 303030303031",
                 &[(b'M', 2)],
             ),
             done(
-                Act::Alarm(1, true),
-                b"",
+                Call::Alarm(1, true),
+                "",
                 &[(b'M', 3), (b'O', 1), (b'M', 4), (b'O', 2)],
             ),
             // the host's S1,F13
-            done(Act::Host(b"0007 010d 0000 000000aa"), b"", &[]),
+            done(Act::Frame("0007 010d 0000 000000aa"), "", &[]),
             // the host's S6,F23 W; S6,F24: B 0
             done(
-                Act::Host(b"0007 8617 0000 000000aa a50100"),
-                b"0000000d 0007 0618 0000 000000aa 210100",
+                Act::Frame("0007 8617 0000 000000aa a50100"),
+                "0000000d 0007 0618 0000 000000aa 210100",
                 &[],
             ),
             // S5,F1 W: ALCD 132, alarm 1
             done(
-                Act::Pump,
-                b"00000017 0007 8501 0000 00000004 0103 210184 b10400000001 4100",
+                Call::Pump,
+                "00000017 0007 8501 0000 00000004 0103 210184 b10400000001 4100",
                 &[],
             ),
             // the host's S5,F2
-            done(Act::Host(b"0007 0502 0000 00000004"), b"", &[(b'B', 3)]),
+            done(Act::Frame("0007 0502 0000 00000004"), "", &[(b'B', 3)]),
             // LOCAL
-            done(Act::Switch(5), b"", &[(b'M', 5)]),
+            done(Call::Switch(5), "", &[(b'M', 5)]),
         ],
     )?;
     assert_eq!(rt; counts, (0, 2));
@@ -586,34 +572,33 @@ fn full_with_overwriting(rt: HostRuntime) -> Result<(), Fail> {
 fn not_full(rt: HostRuntime) -> Result<(), Fail> {
     let counts = run(
         &rt,
-        rt.alloc(),
         SETTINGS,
         Stage::Online,
         &[
             // S1,F13 W
             done(
-                Act::Failure,
-                b"0000001c 0007 810d 0000 00000003 0102 4106 42454e434831 4106 303030303031",
+                Call::Failure,
+                "0000001c 0007 810d 0000 00000003 0102 4106 42454e434831 4106 303030303031",
                 &[(b'M', 2)],
             ),
             // the host's S1,F13
-            done(Act::Host(b"0007 010d 0000 000000aa"), b"", &[]),
+            done(Act::Frame("0007 010d 0000 000000aa"), "", &[]),
             // the host's S6,F23 W; S6,F24: B 0
             done(
-                Act::Host(b"0007 8617 0000 000000aa a50100"),
-                b"0000000d 0007 0618 0000 000000aa 210100",
+                Act::Frame("0007 8617 0000 000000aa a50100"),
+                "0000000d 0007 0618 0000 000000aa 210100",
                 &[],
             ),
             // S6,F11 W: report 1, event 3
             done(
-                Act::Pump,
-                b"0000001a 0007 860b 0000 00000004 0103 b10400000001 b10400000003 0100",
+                Call::Pump,
+                "0000001a 0007 860b 0000 00000004 0103 b10400000001 b10400000003 0100",
                 &[],
             ),
             // the host's S6,F12
-            done(Act::Host(b"0007 060c 0000 00000004"), b"", &[(b'B', 1)]),
+            done(Act::Frame("0007 060c 0000 00000004"), "", &[(b'B', 1)]),
             // LOCAL
-            done(Act::Switch(5), b"", &[(b'M', 3)]),
+            done(Call::Switch(5), "", &[(b'M', 3)]),
         ],
     )?;
     assert_eq!(rt; counts, (0, 2));
@@ -625,38 +610,37 @@ fn not_full(rt: HostRuntime) -> Result<(), Fail> {
 fn open_one_overwritten(rt: HostRuntime) -> Result<(), Fail> {
     let counts = run(
         &rt,
-        rt.alloc(),
         OVERWRITE,
         Stage::Online,
         &[
             // S1,F13 W
             done(
-                Act::Failure,
-                b"0000001c 0007 810d 0000 00000003 0102 4106 42454e434831 4106 303030303031",
+                Call::Failure,
+                "0000001c 0007 810d 0000 00000003 0102 4106 42454e434831 4106 303030303031",
                 &[(b'M', 2)],
             ),
             // the host's S1,F13
-            done(Act::Host(b"0007 010d 0000 000000aa"), b"", &[]),
+            done(Act::Frame("0007 010d 0000 000000aa"), "", &[]),
             // the host's S6,F23 W; S6,F24: B 0
             done(
-                Act::Host(b"0007 8617 0000 000000aa a50100"),
-                b"0000000d 0007 0618 0000 000000aa 210100",
+                Act::Frame("0007 8617 0000 000000aa a50100"),
+                "0000000d 0007 0618 0000 000000aa 210100",
                 &[],
             ),
             // S6,F11 W: report 1, event 3
             done(
-                Act::Pump,
-                b"0000001a 0007 860b 0000 00000004 0103 b10400000001 b10400000003 0100",
+                Call::Pump,
+                "0000001a 0007 860b 0000 00000004 0103 b10400000001 b10400000003 0100",
                 &[],
             ),
             // LOCAL
-            done(Act::Switch(5), b"", &[(b'M', 3), (b'O', 1)]),
+            done(Call::Switch(5), "", &[(b'M', 3), (b'O', 1)]),
             // the host's S6,F12
-            done(Act::Host(b"0007 060c 0000 00000004"), b"", &[]),
+            done(Act::Frame("0007 060c 0000 00000004"), "", &[]),
             // S6,F11 W: report 2, event 4
             done(
-                Act::Pump,
-                b"0000001a 0007 860b 0000 00000005 0103 b10400000002 b10400000004 0100",
+                Call::Pump,
+                "0000001a 0007 860b 0000 00000005 0103 b10400000002 b10400000004 0100",
                 &[],
             ),
         ],
@@ -670,59 +654,58 @@ fn open_one_overwritten(rt: HostRuntime) -> Result<(), Fail> {
 fn transmit_fails(rt: HostRuntime) -> Result<(), Fail> {
     let counts = run(
         &rt,
-        rt.alloc(),
         SETTINGS,
         Stage::Online,
         &[
             // S1,F13 W
             done(
-                Act::Failure,
-                b"0000001c 0007 810d 0000 00000003 0102 4106 42454e434831 4106 303030303031",
+                Call::Failure,
+                "0000001c 0007 810d 0000 00000003 0102 4106 42454e434831 4106 303030303031",
                 &[(b'M', 2)],
             ),
             // the host's S1,F13
-            done(Act::Host(b"0007 010d 0000 000000aa"), b"", &[]),
+            done(Act::Frame("0007 010d 0000 000000aa"), "", &[]),
             // the host's S6,F23 W; S6,F24: B 0
             done(
-                Act::Host(b"0007 8617 0000 000000aa a50100"),
-                b"0000000d 0007 0618 0000 000000aa 210100",
+                Act::Frame("0007 8617 0000 000000aa a50100"),
+                "0000000d 0007 0618 0000 000000aa 210100",
                 &[],
             ),
             // S6,F11 W: report 1, event 3
             done(
-                Act::Pump,
-                b"0000001a 0007 860b 0000 00000004 0103 b10400000001 b10400000003 0100",
+                Call::Pump,
+                "0000001a 0007 860b 0000 00000004 0103 b10400000001 b10400000003 0100",
                 &[],
             ),
             // the host's S6,F12
-            done(Act::Host(b"0007 060c 0000 00000004"), b"", &[(b'B', 1)]),
+            done(Act::Frame("0007 060c 0000 00000004"), "", &[(b'B', 1)]),
             // S1,F13 W
             done(
-                Act::Failure,
-                b"0000001c 0007 810d 0000 00000005 0102 4106 42454e434831 4106 303030303031",
+                Call::Failure,
+                "0000001c 0007 810d 0000 00000005 0102 4106 42454e434831 4106 303030303031",
                 &[(b'M', 3)],
             ),
             // the host's S1,F13
-            done(Act::Host(b"0007 010d 0000 000000aa"), b"", &[]),
-            done(Act::Pump, b"", &[]),
+            done(Act::Frame("0007 010d 0000 000000aa"), "", &[]),
+            done(Call::Pump, "", &[]),
             // the host's S6,F23 W; S6,F24: B 0
             done(
-                Act::Host(b"0007 8617 0000 000000aa a50100"),
-                b"0000000d 0007 0618 0000 000000aa 210100",
+                Act::Frame("0007 8617 0000 000000aa a50100"),
+                "0000000d 0007 0618 0000 000000aa 210100",
                 &[],
             ),
             // S6,F11 W: report 2, event 4
             done(
-                Act::Pump,
-                b"0000001a 0007 860b 0000 00000006 0103 b10400000002 b10400000004 0100",
+                Call::Pump,
+                "0000001a 0007 860b 0000 00000006 0103 b10400000002 b10400000004 0100",
                 &[],
             ),
             // the host's S6,F12
-            done(Act::Host(b"0007 060c 0000 00000006"), b"", &[(b'B', 2)]),
+            done(Act::Frame("0007 060c 0000 00000006"), "", &[(b'B', 2)]),
             // S6,F11 W: report 3, event 6
             done(
-                Act::Pump,
-                b"0000001a 0007 860b 0000 00000007 0103 b10400000003 b10400000006 0100",
+                Call::Pump,
+                "0000001a 0007 860b 0000 00000007 0103 b10400000003 b10400000006 0100",
                 &[],
             ),
         ],
@@ -736,39 +719,38 @@ fn transmit_fails(rt: HostRuntime) -> Result<(), Fail> {
 fn transmit_disabled(rt: HostRuntime) -> Result<(), Fail> {
     let counts = run(
         &rt,
-        rt.alloc(),
         SETTINGS,
         Stage::Online,
         &[
             // S1,F13 W
             done(
-                Act::Failure,
-                b"0000001c 0007 810d 0000 00000003 0102 4106 42454e434831 4106 303030303031",
+                Call::Failure,
+                "0000001c 0007 810d 0000 00000003 0102 4106 42454e434831 4106 303030303031",
                 &[(b'M', 2)],
             ),
             // the host's S1,F13
-            done(Act::Host(b"0007 010d 0000 000000aa"), b"", &[]),
+            done(Act::Frame("0007 010d 0000 000000aa"), "", &[]),
             // the host's S6,F23 W; S6,F24: B 0
             done(
-                Act::Host(b"0007 8617 0000 000000aa a50100"),
-                b"0000000d 0007 0618 0000 000000aa 210100",
+                Act::Frame("0007 8617 0000 000000aa a50100"),
+                "0000000d 0007 0618 0000 000000aa 210100",
                 &[],
             ),
             // DISABLE
-            done(Act::Switch(2), b"", &[]),
-            done(Act::Pump, b"", &[]),
+            done(Call::Switch(2), "", &[]),
+            done(Call::Pump, "", &[]),
             // ENABLE; S1,F13 W
             done(
-                Act::Switch(1),
-                b"0000001c 0007 810d 0000 00000004 0102 4106 42454e434831 4106 303030303031",
+                Call::Switch(1),
+                "0000001c 0007 810d 0000 00000004 0102 4106 42454e434831 4106 303030303031",
                 &[],
             ),
             // the host's S1,F14
-            done(Act::Host(b"0007 010e 0000 00000004 0102 210100"), b"", &[]),
+            done(Act::Frame("0007 010e 0000 00000004 0102 210100"), "", &[]),
             // S6,F11 W: report 1, event 3
             done(
-                Act::Pump,
-                b"0000001a 0007 860b 0000 00000005 0103 b10400000001 b10400000003 0100",
+                Call::Pump,
+                "0000001a 0007 860b 0000 00000005 0103 b10400000001 b10400000003 0100",
                 &[],
             ),
         ],
@@ -782,36 +764,35 @@ fn transmit_disabled(rt: HostRuntime) -> Result<(), Fail> {
 fn full_ends(rt: HostRuntime) -> Result<(), Fail> {
     let counts = run(
         &rt,
-        rt.alloc(),
         SETTINGS,
         Stage::Online,
         &[
             // S1,F13 W
             done(
-                Act::Failure,
-                b"0000001c 0007 810d 0000 00000003 0102 4106 42454e434831 4106 303030303031",
+                Call::Failure,
+                "0000001c 0007 810d 0000 00000003 0102 4106 42454e434831 4106 303030303031",
                 &[(b'M', 2)],
             ),
             done(
-                Act::Alarm(1, true),
-                b"",
+                Call::Alarm(1, true),
+                "",
                 &[(b'M', 3), (b'T', 3), (b'M', 4), (b'T', 4)],
             ),
             // the host's S1,F13
-            done(Act::Host(b"0007 010d 0000 000000aa"), b"", &[]),
+            done(Act::Frame("0007 010d 0000 000000aa"), "", &[]),
             // the host's S6,F23 W; S6,F24: B 0
             done(
-                Act::Host(b"0007 8617 0000 000000aa a50101"),
-                b"0000000d 0007 0618 0000 000000aa 210100",
+                Act::Frame("0007 8617 0000 000000aa a50101"),
+                "0000000d 0007 0618 0000 000000aa 210100",
                 &[],
             ),
-            done(Act::Pump, b"", &[(b'P', 1)]),
-            done(Act::Pump, b"", &[(b'P', 2)]),
-            done(Act::Pump, b"", &[(b'M', 5)]),
+            done(Call::Pump, "", &[(b'P', 1)]),
+            done(Call::Pump, "", &[(b'P', 2)]),
+            done(Call::Pump, "", &[(b'M', 5)]),
             // S1,F13 W
             done(
-                Act::Failure,
-                b"0000001c 0007 810d 0000 00000004 0102 4106 42454e434831 4106 303030303031",
+                Call::Failure,
+                "0000001c 0007 810d 0000 00000004 0102 4106 42454e434831 4106 303030303031",
                 &[(b'M', 6)],
             ),
         ],

@@ -1,14 +1,14 @@
 // Setups and the start.
-use crate::driver::{SETTINGS, lines_are, plan, slots};
+use crate::driver::{Lent, SETTINGS, ended, slots, started};
 use gem::equipment::{Call, Equipment};
 use gem::start;
-use lines::line::{Letter, Line};
+use lines::line::Line;
 use setup::plan::Setup;
-use std::alloc::Global;
+use std::alloc::{AllocError, Global};
 use std::process::Abort;
 use std::test::Fail;
 use store::Store;
-use store::answers::PutAnswer;
+use store::report::Report;
 use store::ring::Ring;
 use zone::variable::{Bounds, Kind, Sample};
 
@@ -79,6 +79,18 @@ fn band_bounds(rt: HostRuntime) {
     );
 }
 
+// Puts reports of the numbers from 0 on.
+fn fill(ring: &mut Ring, count: u32) {
+    for number in 0..count {
+        let _ = ring.put(Report {
+            number,
+            stream: 6,
+            function: 11,
+            body: b"",
+        });
+    }
+}
+
 // What the check says of a queue and a spool of these capacities that hold so many reports.
 fn checked(
     heap: Global,
@@ -89,12 +101,8 @@ fn checked(
     let second = slots(heap, capacities.1)?;
     let mut queue = Ring::new(first);
     let mut spool = Ring::new(second);
-    for number in 0..held.0 {
-        queue.put(number, 6, 11, b"");
-    }
-    for number in 0..held.1 {
-        spool.put(number, 6, 11, b"");
-    }
+    fill(&mut queue, held.0);
+    fill(&mut spool, held.1);
     let answer = start::check(&queue, &spool);
     queue.into_slots();
     spool.into_slots();
@@ -125,80 +133,150 @@ fn stores_in_use(rt: HostRuntime) -> Result<(), Fail> {
     Ok(())
 }
 
+// What a call answers: code, detail, bytes and lines.
+type Answer = (u8, usize, usize, usize);
+
 // Moves a switch of an equipment just started, with a queue of a capacity, lending so many bytes and lines; answers
 // what it answers, and whether bytes and lines are as they were.
-fn lent(
-    rt: &impl Abort,
-    heap: Global,
+fn switched(
+    rt: &(impl Abort + AllocGlobal),
     capacity: usize,
     room: (usize, usize),
     number: u32,
-) -> Result<((u8, usize, usize, usize), bool), Fail> {
+) -> Result<(Answer, bool), Fail> {
     let (bytes, lines) = room;
     assert!(rt; bytes <= 512);
     assert!(rt; lines <= 32);
-    let first = slots(heap, capacity)?;
-    let second = slots(heap, 2)?;
-    let mut equipment = Equipment::start(plan(), SETTINGS, Ring::new(first), Ring::new(second));
-    let mut out = [0xeeu8; 512];
-    let mut ledger = [Line {
-        letter: Letter::Made,
-        number: 4294967295,
-    }; 32];
-    let answer = equipment.switch(number, &mut out[0..bytes], &mut ledger[0..lines]);
-    let (queue, spool) = equipment.into_stores();
-    queue.into_slots();
-    spool.into_slots();
-    Ok((answer, out == [0xeeu8; 512] && lines_are(&ledger, &[])))
+    let mut equipment = started(rt.alloc(), (capacity, 2), SETTINGS)?;
+    let mut lent = Lent::marked();
+    let answer = equipment.switch(number, &mut lent.out[..bytes], &mut lent.ledger[..lines]);
+    ended(equipment);
+    Ok((answer, lent.holds(&[], &[])))
 }
 
 // Unfit is 1 before a short output buffer is 2, a short ledger is 3 and an unknown switch is 5; none writes.
 #[test]
 fn order_of_refusals(rt: HostRuntime) -> Result<(), Fail> {
-    let heap = rt.alloc();
-    assert_eq!(rt; lent(&rt, heap, 0, (511, 31), 9)?, ((1, 0, 0, 0), true));
-    assert_eq!(rt; lent(&rt, heap, 2, (511, 31), 9)?, ((2, 511, 0, 0), true));
-    assert_eq!(rt; lent(&rt, heap, 2, (0, 32), 1)?, ((2, 0, 0, 0), true));
-    assert_eq!(rt; lent(&rt, heap, 2, (512, 31), 9)?, ((3, 31, 0, 0), true));
-    assert_eq!(rt; lent(&rt, heap, 2, (512, 0), 1)?, ((3, 0, 0, 0), true));
-    assert_eq!(rt; lent(&rt, heap, 2, (512, 32), 9)?, ((5, 9, 0, 0), true));
-    assert_eq!(rt; lent(&rt, heap, 2, (512, 32), 1)?, ((0, 0, 32, 0), false));
+    assert_eq!(rt; switched(&rt, 0, (511, 31), 9)?, ((1, 0, 0, 0), true));
+    assert_eq!(rt; switched(&rt, 2, (511, 31), 9)?, ((2, 511, 0, 0), true));
+    assert_eq!(rt; switched(&rt, 2, (0, 32), 1)?, ((2, 0, 0, 0), true));
+    assert_eq!(rt; switched(&rt, 2, (512, 31), 9)?, ((3, 31, 0, 0), true));
+    assert_eq!(rt; switched(&rt, 2, (512, 0), 1)?, ((3, 0, 0, 0), true));
+    assert_eq!(rt; switched(&rt, 2, (512, 32), 9)?, ((5, 9, 0, 0), true));
+    assert_eq!(rt; switched(&rt, 2, (512, 32), 1)?, ((0, 0, 32, 0), false));
+    Ok(())
+}
+
+// Two equipments that are taken through the same calls, one by values and one by names.
+#[derive(Drop)]
+struct Pair<'a, R> {
+    rt: &'a R,
+    by_value: &'a mut Equipment<Ring, Ring>,
+    by_name: &'a mut Equipment<Ring, Ring>,
+}
+
+impl<R: Abort> Pair<'_, R> {
+    fn take<F>(&mut self, call: Call<'_>, named: F, expected: Answer)
+    where
+        F: FnOnce(&mut Equipment<Ring, Ring>, &mut [u8], &mut [Line]) -> Answer,
+        requires { F.IsAlwaysCallable named }
+    {
+        let mut first = Lent::marked();
+        let mut second = Lent::marked();
+        let answer = self.by_value.call(call, &mut first.out, &mut first.ledger);
+        assert_eq!(self.rt; answer, expected);
+        let answer = named(self.by_name, &mut second.out, &mut second.ledger);
+        assert_eq!(self.rt; answer, expected);
+        assert!(self.rt; first == second);
+    }
+
+    fn take_refused(&mut self) {
+        self.take(
+            Call::Host(b"1234567"),
+            |e, out, ledger| e.host(b"1234567", out, ledger),
+            (8, 7, 0, 0),
+        );
+        self.take(
+            Call::Switch(9),
+            |e, out, ledger| e.switch(9, out, ledger),
+            (5, 9, 0, 0),
+        );
+        self.take(
+            Call::Expiry(8),
+            |e, out, ledger| e.expiry(8, out, ledger),
+            (5, 8, 0, 0),
+        );
+        let sample = Sample::Whole(1);
+        self.take(
+            Call::Sample(6, sample),
+            |e, out, ledger| e.sample(6, sample, out, ledger),
+            (5, 6, 0, 0),
+        );
+        self.take(
+            Call::Alarm(5, true),
+            |e, out, ledger| e.alarm(5, true, out, ledger),
+            (5, 5, 0, 0),
+        );
+    }
+
+    fn take_done(&mut self) {
+        self.take(
+            Call::Pump,
+            |e, out, ledger| e.pump(out, ledger),
+            (0, 0, 0, 0),
+        );
+        self.take(
+            Call::Switch(1),
+            |e, out, ledger| e.switch(1, out, ledger),
+            (0, 0, 32, 0),
+        );
+        self.take(
+            Call::Failure,
+            |e, out, ledger| e.failure(out, ledger),
+            (0, 0, 0, 0),
+        );
+        self.take(
+            Call::Expiry(1),
+            |e, out, ledger| e.expiry(1, out, ledger),
+            (0, 0, 32, 0),
+        );
+        self.take(
+            Call::Power,
+            |e, out, ledger| e.power(out, ledger),
+            (0, 0, 0, 0),
+        );
+        // Power has set communications to DISABLED, so ENABLE sends S1,F13.
+        self.take(
+            Call::Switch(1),
+            |e, out, ledger| e.switch(1, out, ledger),
+            (0, 0, 32, 0),
+        );
+    }
+}
+
+// Takes an equipment through the calls by values, and another one by names.
+fn take_both(
+    rt: &(impl Abort + AllocGlobal),
+    by_value: &mut Equipment<Ring, Ring>,
+) -> Result<(), AllocError> {
+    let mut by_name = started(rt.alloc(), (8, 1), SETTINGS)?;
+    let mut pair = Pair {
+        rt,
+        by_value,
+        by_name: &mut by_name,
+    };
+    pair.take_refused();
+    pair.take_done();
+    ended(by_name);
     Ok(())
 }
 
 // A call as a value does what the call of its name does.
-fn called(equipment: &mut Equipment<Ring, Ring>, call: Call<'_>) -> (u8, usize, usize, usize) {
-    let mut out = [0u8; 512];
-    let mut ledger = [Line {
-        letter: Letter::Made,
-        number: 0,
-    }; 32];
-    equipment.call(call, &mut out, &mut ledger)
-}
-
-fn each_call(rt: &impl Abort, equipment: &mut Equipment<Ring, Ring>) {
-    assert_eq!(rt; called(equipment, Call::Host(b"1234567")), (8, 7, 0, 0));
-    assert_eq!(rt; called(equipment, Call::Switch(9)), (5, 9, 0, 0));
-    assert_eq!(rt; called(equipment, Call::Expiry(8)), (5, 8, 0, 0));
-    assert_eq!(rt;
-        called(equipment, Call::Sample(6, Sample::Whole(1))),
-        (5, 6, 0, 0)
-    );
-    assert_eq!(rt; called(equipment, Call::Alarm(5, true)), (5, 5, 0, 0));
-    assert_eq!(rt; called(equipment, Call::Pump), (0, 0, 0, 0));
-    assert_eq!(rt; called(equipment, Call::Switch(1)), (0, 0, 32, 0));
-    assert_eq!(rt; called(equipment, Call::Failure), (0, 0, 0, 0));
-    assert_eq!(rt; called(equipment, Call::Expiry(1)), (0, 0, 32, 0));
-}
-
 #[test]
 fn calls_as_values(rt: HostRuntime) -> Result<(), Fail> {
-    let first = slots(rt.alloc(), 8)?;
-    let second = slots(rt.alloc(), 1)?;
-    let mut equipment = Equipment::start(plan(), SETTINGS, Ring::new(first), Ring::new(second));
-    each_call(&rt, &mut equipment);
-    let (queue, spool) = equipment.into_stores();
-    queue.into_slots();
-    spool.into_slots();
+    let mut equipment = started(rt.alloc(), (8, 1), SETTINGS)?;
+    let result = take_both(&rt, &mut equipment);
+    ended(equipment);
+    result?;
     Ok(())
 }
