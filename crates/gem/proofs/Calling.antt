@@ -1,6 +1,7 @@
 -- A call that is not refused.
-use Rattle.std.proofs.Common.{◌≡◌, ℕ, ◌≤◌, Bool, cond, leb, List, [], length, Some, None, Option, unwrap_or, refl, ap, ◌∙◌, arith}
+use Rattle.std.proofs.Common.{◌≡◌, ℕ, ◌≤◌, Bool, cond, leb, List, [], length, take, Some, None, Option, unwrap_or, refl, ap, ◌∙◌, arith}
 use Rattle.std.proofs.lemmas.Bool.{cond-true, le-leb}
+use Rattle.std.proofs.lemmas.List.{length-take}
 use Rattle.host.specs.Takes.{Turn}
 use Rattle.lines.specs.Journals.{lines_of, on_ledger}
 use Rattle.lines.specs.declared.journal.Journal.{Journal}
@@ -22,14 +23,15 @@ use Rattle.gem.specs.Calls.{Answered, call_turn, found, unless}
 -- what is sent has at most 14 + 480 bytes
 sent_short : (m : Option Message) → length (frame_bytes (sent_of m)) ≤ 494
 sent_short None = omega arith
-sent_short (Some m) = omega (arith, length_frame m.header m.body.items, m.fits)
+sent_short (Some m) =
+    omega (arith, length_frame m.header (take m.length m.body), length-take m.length m.body, m.fits)
 
 pub posted_short : (o : Outbox) → length (frame_bytes (sent_by o)) ≤ 494
 posted_short o = sent_short o.message
 
 -- a call writes at most 32 lines
 pub journal_short : (j : Journal) → length (lines_of j) ≤ 32
-journal_short j = j.within
+journal_short j = omega (arith, length-take j.used j.lines, j.within)
 
 -- a call that no shared refusal stops has room
 admitted : (fit : Bool) (out ledger : ℕ) (c : Counts) → refusal_of fit out ledger c ≡ None → (512 ≤ out) × (32 ≤ ledger)

@@ -1,12 +1,12 @@
 -- The lines of one call.
-use Rattle.std.specs.Prelude.{ℕ, cond, List, [], ◌∷◌, ◌++◌, length, drop, nat_lt}
+use Rattle.std.specs.Prelude.{ℕ, cond, List, [], ◌∷◌, ◌++◌, length, take, drop, nat_lt}
 use Rattle.lines.specs.declared.line.Letter.{Letter}
 use Rattle.lines.specs.declared.line.Line.{Line}
 use Rattle.lines.specs.declared.journal.Journal.{Journal}
 
 -- the lines that a journal holds, in the order in which they came
 abbrev pub lines_of : Journal → List Line
-lines_of j = j.lines.items
+lines_of j = take j.used j.lines
 
 -- one line more; a journal has room for 32, and what comes after that is not kept
 abbrev pub noted : Letter → ℕ → List Line → List Line

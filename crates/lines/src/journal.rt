@@ -1,14 +1,13 @@
-ghost use Rattle.std.specs.Prelude.{◌≤◌, length};
+ghost use Rattle.std.specs.Prelude.{◌≤◌};
 
 use crate::line::Line;
-use arrayvec::ArrayVec;
 
 pub mod calls;
 
 // The lines of one call, before they go to the ledger that the call was lent. A call never allocates.
-#[derive(Drop)]
+#[derive(Clone, Copy)]
 pub struct Journal {
-    lines: ArrayVec<Line, 32>,
-    // What the vector's type says, for proofs that do not read it.
-    ghost within: { length lines.items ≤ 32 },
+    lines: [Line; 32],
+    used: usize,
+    ghost within: { used ≤ 32 },
 }

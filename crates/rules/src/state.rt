@@ -57,7 +57,7 @@ pub struct Core<Q, S> {
 
 // What a call writes: its ledger lines and the frame that it sends. `Next` is passed beside it: in one struct with what is
 // written, each rule would also have to promise that the numbers stay. The core, which outlives a call, is passed beside both.
-#[derive(Drop)]
+#[derive(Clone, Copy)]
 pub struct Effects {
     pub journal: Journal,
     pub outbox: Outbox,

@@ -1,5 +1,5 @@
 -- The frame that a call sends.
-use Rattle.std.specs.Prelude.{ℕ, List, [], ◌++◌, length, drop, Some, None, Option}
+use Rattle.std.specs.Prelude.{ℕ, List, [], ◌++◌, length, take, drop, Some, None, Option}
 use Rattle.frames.specs.Frames.{frame_of}
 use Rattle.frames.specs.declared.header.Header.{Header}
 use Rattle.sending.specs.declared.outbox.Message.{Message}
@@ -13,7 +13,7 @@ pub record Sent : Type 0 where
 -- the frame of a message, where there is one
 abbrev pub sent_of : Option Message → Option Sent
 sent_of None = None
-sent_of (Some m) = Some (record { header = m.header; body = m.body.items })
+sent_of (Some m) = Some (record { header = m.header; body = take m.length m.body })
 
 abbrev pub sent_by : Outbox → Option Sent
 sent_by o = sent_of o.message

@@ -1,22 +1,21 @@
-ghost use Rattle.std.specs.Prelude.{◌≤◌, length};
+ghost use Rattle.std.specs.Prelude.{◌≤◌};
 
-use arrayvec::ArrayVec;
 use bodies::write::BODY_LIMIT;
 use frames::header::Header;
 
 pub mod calls;
 
-// A message that waits for its frame. A call never allocates.
-#[derive(Drop)]
+// A message that waits for its frame: the first `length` bytes of `body` are its body. A call never allocates.
+#[derive(Clone, Copy)]
 pub struct Message {
-    pub(crate) header: Header,
-    pub(crate) body: ArrayVec<u8, BODY_LIMIT>,
-    // What the vector's type says, for proofs that do not read it.
-    ghost fits: { length body.items ≤ 480 },
+    header: Header,
+    length: usize,
+    body: [u8; BODY_LIMIT],
+    ghost fits: { length ≤ 480 },
 }
 
 // The message that a call sends, if it sends one; no call sends two.
-#[derive(Drop)]
+#[derive(Clone, Copy)]
 pub struct Outbox {
     message: Option<Message>,
 }

@@ -3,10 +3,11 @@ ghost use Rattle.bodies.specs.Bodies.{body_of};
 ghost use Rattle.sending.specs.Sending.{sent_by, frame_bytes, on_buffer};
 
 use crate::outbox::{Message, Outbox};
-use arrayvec::ArrayVec;
 use bodies::body::Body;
+use bodies::write::{BODY_LIMIT, write_body};
 use frames::frame::write_frame;
 use frames::header::Header;
+use octets::copy_at;
 
 impl Outbox {
     pub fn new() -> Outbox
@@ -19,9 +20,12 @@ impl Outbox {
     pub fn post(&mut self, header: Header, body: Body)
         ensures { sent_by self.new ≡ Some (record { header = header; body = body_of body }) }
     {
+        let mut bytes = [0; BODY_LIMIT];
+        let length = write_body(body, &mut bytes).unwrap();
         self.message = Some(Message {
             header,
-            body: body.bytes(),
+            length,
+            body: bytes,
         });
     }
 
@@ -29,8 +33,13 @@ impl Outbox {
     pub fn post_bytes(&mut self, header: Header, body: &[u8])
         ensures { sent_by self.new ≡ (if nat_le (length body.now) 480 then Some (record { header = header; body = body.now }) else sent_by self.old) }
     {
-        if let Ok(body) = ArrayVec::try_from(body) {
-            self.message = Some(Message { header, body });
+        let mut bytes = [0; BODY_LIMIT];
+        if copy_at(&mut bytes, 0, body) {
+            self.message = Some(Message {
+                header,
+                length: body.len(),
+                body: bytes,
+            });
         }
     }
 
@@ -42,7 +51,9 @@ impl Outbox {
     {
         match &self.message {
             None => Some(0),
-            Some(message) => write_frame(out, 0, message.header, &message.body),
+            Some(message) => {
+                write_frame(out, 0, message.header, &message.body[..message.length])
+            }
         }
     }
 }
