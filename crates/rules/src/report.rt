@@ -6,6 +6,7 @@ ghost use Rattle.rules.specs.Views.{view};
 use crate::event::Event;
 use crate::state::{Core, Effects, Next};
 use bodies::body::Body;
+use bodies::write::{BODY_LIMIT, write_body};
 use states::link::Link;
 use store::Store;
 use store::report::Report;
@@ -18,12 +19,13 @@ impl<Q: Store, S: Store> Core<Q, S> {
         if !self.state.control.is_online() {
             return;
         }
-        let bytes = body.bytes();
+        let mut bytes = [0; BODY_LIMIT];
+        let length = write_body(body, &mut bytes).unwrap();
         let report = Report {
             number: next.report,
             stream,
             function,
-            body: &bytes,
+            body: &bytes[..length],
         };
         let disabled = self.state.link == Link::Disabled;
         let overwrite = self.state.settings.overwrite;
