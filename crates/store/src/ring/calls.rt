@@ -6,7 +6,7 @@ ghost use Rattle.store.specs.Rings.{report_in, reports_of, slot_place};
 use crate::Store;
 use crate::answers::{Copied, PutRefusal};
 use crate::record::Record;
-use crate::report::Report;
+use crate::report::{BODY_LIMIT, Report};
 use crate::ring::Ring;
 
 impl Ring {
@@ -62,10 +62,9 @@ impl Store for Ring {
 
     // Each make finds its newest report and its room in its own way, so that the three refusals stand in each.
     fn put(&mut self, report: Report<'_>) -> Result<(), PutRefusal> {
-        if report.number == 0 {
+        if report.number == 0 || report.body.len() > BODY_LIMIT {
             return Err(PutRefusal::Unfit);
         }
-        let filled = Record::new(report).ok_or(PutRefusal::Unfit)?;
         if self
             .newest()
             .is_some_and(|newest| report.number <= newest.number())
@@ -75,6 +74,9 @@ impl Store for Ring {
         if self.count >= self.slots.len() {
             return Err(PutRefusal::Full);
         }
+        let Some(filled) = Record::new(report) else {
+            return Err(PutRefusal::Unfit);
+        };
         let at = self.slot(self.count);
         self.slots[at] = filled;
         self.count += 1;
