@@ -1,5 +1,5 @@
 // The kinds of value that a variable, a sample and a bound have.
-ghost use Rattle.std.specs.Prelude.{◌≡◌, ℕ, Bool, true, false, Some, Option, int_le, refl};
+ghost use Rattle.std.specs.Prelude.{◌≡◌, ℕ, Bool, true, false, Some, Option, int_le};
 ghost use Rattle.octets.specs.Big.{be4, num4};
 ghost use Rattle.secs.specs.Formats.{code_of, width_of};
 ghost use Rattle.secs.specs.declared.format.Format.{Format};
@@ -23,10 +23,6 @@ pub trait ValueKind: Sized {
 
     ghost format: { Format };
 
-    ghost CODE: { ℕ };
-
-    ghost WIDTH: { ℕ };
-
     ghost at_most: { Self → Self → Bool };
 
     ghost bits: { Self → ℕ };
@@ -34,16 +30,10 @@ pub trait ValueKind: Sized {
     ghost of_bits: { ℕ → Option Self };
 
     fn format_code() -> u8
-        ensures { result ≡ code_of format }
-    {
-        Self::CODE
-    }
+        ensures { result ≡ code_of format };
 
     fn element_width() -> u8
-        ensures { result ≡ width_of format }
-    {
-        Self::WIDTH
-    }
+        ensures { result ≡ width_of format };
 
     fn at_most(&self, other: &Self) -> bool
         ensures { result ≡ at_most self.now other.now };
@@ -57,10 +47,6 @@ pub trait ValueKind: Sized {
     fn from_bytes(bytes: [u8; 4]) -> Option<Self>
         ensures { result ≡ of_bits (num4 bytes 0) };
 
-    ghost code: { CODE ≡ code_of format };
-
-    ghost width: { WIDTH ≡ width_of format };
-
     ghost total: { (x y : Self) → at_most x y ≡ false → at_most y x ≡ true };
 
     ghost transitive: { (x y z : Self) → at_most x y ≡ true → at_most y z ≡ true → at_most x z ≡ true };
@@ -73,14 +59,6 @@ impl ValueKind for i32 {
 
     ghost format = { formats.I4 };
 
-    ghost CODE = { code_of formats.I4 };
-
-    ghost WIDTH = { width_of formats.I4 };
-
-    ghost code = { refl };
-
-    ghost width = { refl };
-
     ghost at_most = { int_le };
 
     ghost bits = { whole_bits };
@@ -90,6 +68,14 @@ impl ValueKind for i32 {
     ghost total = { whole_total };
 
     ghost transitive = { whole_transitive };
+
+    fn format_code() -> u8 {
+        Self::CODE
+    }
+
+    fn element_width() -> u8 {
+        Self::WIDTH
+    }
 
     fn at_most(&self, other: &i32) -> bool {
         self <= other
@@ -111,14 +97,6 @@ impl ValueKind for Real {
 
     ghost format = { formats.F4 };
 
-    ghost CODE = { code_of formats.F4 };
-
-    ghost WIDTH = { width_of formats.F4 };
-
-    ghost code = { refl };
-
-    ghost width = { refl };
-
     ghost at_most = { real_at_most };
 
     ghost bits = { real_bits };
@@ -131,6 +109,14 @@ impl ValueKind for Real {
         (lt_of_not-le x.value y.value (fails _ x.number) (fails _ y.number) (fails _ h))) };
 
     ghost transitive = { λ x y z h k. is_true _ (le_trans x.value y.value z.value (passes _ h) (passes _ k)) };
+
+    fn format_code() -> u8 {
+        Self::CODE
+    }
+
+    fn element_width() -> u8 {
+        Self::WIDTH
+    }
 
     fn at_most(&self, other: &Real) -> bool {
         self.value <= other.value

@@ -1,7 +1,6 @@
 -- The zone rule where a value comes once more, and where a band has width.
 use Rattle.std.proofs.Common.{◌≡◌, Bool, true, false, not, ◌||◌, List, [], ◌∷◌, Some, None, Option, sym, refl, ap, ◌∙◌}
 use Rattle.std.proofs.lemmas.Bool.{both_ways}
-use Rattle.kinds.specs.declared.kind.ValueKind.{Ghosts}
 use Rattle.zone.specs.declared.band.Band.{Band}
 use Rattle.zone.specs.declared.rule.Zone.{Zone}
 use Rattle.zone.specs.declared.rule.Zone.TheVariants.{NoZone, Above, Below}
@@ -43,26 +42,26 @@ again z false false h = ap (λ y. next_zone y false false) (rest z)
 abbrev pub Transitive : {K : Type 0} → (K → K → Bool) → Type 0
 Transitive {K} at_most = (x y z : K) → at_most x y ≡ true → at_most y z ≡ true → at_most x z ≡ true
 
-module _ {K : Type 0} (kind : Ghosts K) (transitive : Transitive kind.at_most) where
+module _ {K : Type 0} (at_most : K → K → Bool) (transitive : Transitive at_most) where
   -- a value at both bounds of a band with width: there is none
-  pub not_both : (band : Band K kind) (value : K) → Under kind.at_most band.lower band.upper → AtMost kind.at_most band.upper value → AtMost kind.at_most value band.lower → ⊥
+  pub not_both : (band : Band K) (value : K) → Under at_most band.lower band.upper → AtMost at_most band.upper value → AtMost at_most value band.lower → ⊥
   not_both band value wide h l = both_ways _ wide (transitive band.upper value band.lower h l)
 
   -- a band whose zone the value leaves is left whole
-  pub kept : (value : K) (band : Band K kind) → zone_after kind value band ≡ band.zone → (band_moves kind value band ≡ false) × (band_after kind value band ≡ band)
+  pub kept : (value : K) (band : Band K) → zone_after at_most value band ≡ band.zone → (band_moves at_most value band ≡ false) × (band_after at_most value band ≡ band)
   kept value band e = (
     ap (λ z. not (same_zone z band.zone)) e ∙ ap not (same band.zone),
-    λ i. record { lower = band.lower; upper = band.upper; zone = e i; ordered = band.ordered },
+    λ i. record { lower = band.lower; upper = band.upper; zone = e i },
   )
 
-  settles : (value : K) (band : Band K kind) → Settles kind value (band_after kind value band)
-  settles value band wide = kept value (band_after kind value band) (again band.zone _ _ (not_both band value wide))
+  settles : (value : K) (band : Band K) → Settles at_most value (band_after at_most value band)
+  settles value band wide = kept value (band_after at_most value band) (again band.zone _ _ (not_both band value wide))
 
-  place_settles : (value : K) (place : Option (Band K kind)) → Wide kind (place_after kind value place) → (place_moves kind value (place_after kind value place) ≡ false) × (place_after kind value (place_after kind value place) ≡ place_after kind value place)
+  place_settles : (value : K) (place : Option (Band K)) → Wide at_most (place_after at_most value place) → (place_moves at_most value (place_after at_most value place) ≡ false) × (place_after at_most value (place_after at_most value place) ≡ place_after at_most value place)
   place_settles value None wide = (refl, refl)
   place_settles value (Some band) wide = let s = settles value band wide in (s.0, ap Some s.1)
 
-  pub all_settle : (value : K) (places : List (Option (Band K kind))) → AllSettle kind value (bands_after kind value places)
+  pub all_settle : (value : K) (places : List (Option (Band K))) → AllSettle at_most value (bands_after at_most value places)
   all_settle value [] wide = (refl, refl)
   all_settle value (place ∷ places) wide =
       let s = place_settles value place wide.0 in

@@ -1,5 +1,6 @@
 pub mod Bands
 pub mod Laws
 pub mod Orders
+pub mod Pairs
 pub mod Passes
 pub mod Runs

@@ -1,10 +1,7 @@
 -- Variables, the samples and the bounds that they are given.
-use Rattle.std.specs.Prelude.{ℕ, Bool, List, replicate, ℤ, Some, None, Ok, Err, Option, Result}
+use Rattle.std.specs.Prelude.{ℕ, Bool, List, replicate, ℤ, Some, None, Ok, Err, Option, Result, int_le}
 use Rattle.std.specs.Option.{ok_or}
 use Rattle.std.specs.List.{AllByRecursion}
-use Rattle.kinds.specs.contracts.kind.I32ValueKind.TheImpl as whole
-use Rattle.kinds.specs.contracts.kind.RealValueKind.TheImpl as reals
-use Rattle.kinds.specs.declared.kind.ValueKind.{Ghosts}
 use Rattle.kinds.specs.declared.real.Real as real
 use Rattle.zone.specs.declared.band.Band.{Band}
 use Rattle.zone.specs.declared.rule.Zone.{Zone}
@@ -20,7 +17,7 @@ use Rattle.zone.specs.declared.variable.Variable.{Variable}
 use Rattle.zone.specs.declared.variable.Variable.TheVariants as variable
 use Rattle.zone.specs.declared.variable.SampleFault.{SampleFault}
 use Rattle.zone.specs.declared.variable.SampleFault.TheVariants.{OtherKind, NotANumber}
-use Rattle.kinds.specs.Reals.{real_of}
+use Rattle.kinds.specs.Reals.{real_of, real_at_most}
 use Rattle.zone.specs.Zones.{band_made, bands_after, any_moves}
 use Rattle.zone.specs.Laws.{Ordered}
 use Rattle.zone.specs.Places.{add_answer, add_after, zone_at}
@@ -41,18 +38,18 @@ kind_of (variable.Whole bands) = kind.Whole
 kind_of (variable.Real bands) = kind.Real
 
 -- the band that bounds make of a whole variable
-abbrev pub whole_band : Bounds → Result (Band ℤ whole.ghosts) BandRefusal
-whole_band (bounds.Whole lower upper) = ok_or (band_made whole.ghosts lower upper) refusal.Bounds
+abbrev pub whole_band : Bounds → Result (Band ℤ) BandRefusal
+whole_band (bounds.Whole lower upper) = ok_or (band_made int_le lower upper) refusal.Bounds
 whole_band (bounds.Real lower upper) = Err refusal.Bounds
 
 -- the band between two real values, where both are there
-abbrev pub band_between : Option real.Real → Option real.Real → Option (Band real.Real reals.ghosts)
+abbrev pub band_between : Option real.Real → Option real.Real → Option (Band real.Real)
 band_between None upper = None
 band_between (Some lower) None = None
-band_between (Some lower) (Some upper) = band_made reals.ghosts lower upper
+band_between (Some lower) (Some upper) = band_made real_at_most lower upper
 
 -- the band that bounds make of a real variable
-abbrev pub real_band : Bounds → Result (Band real.Real reals.ghosts) BandRefusal
+abbrev pub real_band : Bounds → Result (Band real.Real) BandRefusal
 real_band (bounds.Whole lower upper) = Err refusal.Bounds
 real_band (bounds.Real lower upper) = ok_or (band_between (real_of lower) (real_of upper)) refusal.Bounds
 
@@ -77,24 +74,24 @@ real_value (sample.Whole value) = Err OtherKind
 real_value (sample.Real value) = ok_or (real_of value) NotANumber
 
 -- whether a value moves a band of some, or the fault that there is no value
-abbrev pub moves_any : {K : Type 0} (kind : Ghosts K) → Result K SampleFault → List (Option (Band K kind)) → Result Bool SampleFault
-moves_any kind (Err fault) places = Err fault
-moves_any kind (Ok value) places = Ok (any_moves kind value places)
+abbrev pub moves_any : {K : Type 0} → (K → K → Bool) → Result K SampleFault → List (Option (Band K)) → Result Bool SampleFault
+moves_any at_most (Err fault) places = Err fault
+moves_any at_most (Ok value) places = Ok (any_moves at_most value places)
 
 -- bands after a value, or as they were where there is none
-abbrev pub moved_by : {K : Type 0} (kind : Ghosts K) → Result K SampleFault → List (Option (Band K kind)) → List (Option (Band K kind))
-moved_by kind (Err fault) places = places
-moved_by kind (Ok value) places = bands_after kind value places
+abbrev pub moved_by : {K : Type 0} → (K → K → Bool) → Result K SampleFault → List (Option (Band K)) → List (Option (Band K))
+moved_by at_most (Err fault) places = places
+moved_by at_most (Ok value) places = bands_after at_most value places
 
 -- the answer to a sample
 abbrev pub sample_answer : Variable → Sample → Result Bool SampleFault
-sample_answer (variable.Whole bands) given = moves_any whole.ghosts (whole_value given) bands.places
-sample_answer (variable.Real bands) given = moves_any reals.ghosts (real_value given) bands.places
+sample_answer (variable.Whole bands) given = moves_any int_le (whole_value given) bands.places
+sample_answer (variable.Real bands) given = moves_any real_at_most (real_value given) bands.places
 
 -- the variable after it
 abbrev pub sample_after : Variable → Sample → Variable
-sample_after (variable.Whole bands) given = variable.Whole (record { places = moved_by whole.ghosts (whole_value given) bands.places })
-sample_after (variable.Real bands) given = variable.Real (record { places = moved_by reals.ghosts (real_value given) bands.places })
+sample_after (variable.Whole bands) given = variable.Whole (record { places = moved_by int_le (whole_value given) bands.places })
+sample_after (variable.Real bands) given = variable.Real (record { places = moved_by real_at_most (real_value given) bands.places })
 
 -- the zone of a variable's band of a number
 abbrev pub zone_of : Variable → ℕ → Option Zone
@@ -103,9 +100,5 @@ zone_of (variable.Real bands) number = zone_at bands.places number
 
 -- every band of a variable has its lower bound at most at its upper one
 abbrev pub AllOrdered : Variable → Type 0
-AllOrdered (variable.Whole bands) = AllByRecursion (Ordered whole.ghosts) bands.places
-AllOrdered (variable.Real bands) = AllByRecursion (Ordered reals.ghosts) bands.places
-
--- and that holds of every variable
-abbrev pub EveryOrdered : Type 0
-EveryOrdered = (v : Variable) → AllOrdered v
+AllOrdered (variable.Whole bands) = AllByRecursion (Ordered int_le) bands.places
+AllOrdered (variable.Real bands) = AllByRecursion (Ordered real_at_most) bands.places

@@ -4,7 +4,6 @@ ghost use Rattle.zone.specs.Places.{add_answer, add_after, band_refusal_code, is
 
 use crate::band::{Band, Bands};
 use crate::rule::Zone;
-use kinds::kind::ValueKind;
 
 // Why a band is refused.
 #[derive(Clone, Copy, PartialEq, Eq, Debug)]
@@ -27,7 +26,7 @@ impl BandRefusal {
     }
 }
 
-impl<K: ValueKind + Copy> Bands<K> {
+impl<K: Copy> Bands<K> {
     // No bands.
     pub(crate) fn new() -> Bands<K>
         ensures { result.places ≡ replicate 7 None }
@@ -53,7 +52,7 @@ impl<K: ValueKind + Copy> Bands<K> {
     }
 }
 
-impl<K: ValueKind> Bands<K> {
+impl<K> Bands<K> {
     // The zone of a band, or none where there is no band of this number.
     pub(crate) fn zone(&self, number: u32) -> Option<Zone>
         ensures { result ≡ zone_at self.now.places number }

@@ -3,7 +3,7 @@ ghost use Rattle.std.specs.Prelude.{◌≡◌};
 ghost use Rattle.zone.specs.Zones.{band_made, zone_after, band_after, band_moves, place_after, place_moves, bands_after, any_moves};
 ghost use Rattle.zone.specs.Laws.{AllSettle, Rises, Falls, Rests, Settles, Alternates};
 
-use crate::band::{Band, Bands};
+pub use crate::band::{Band, Bands};
 use kinds::kind::ValueKind;
 
 // Where a variable's value last was against a band.
@@ -17,7 +17,7 @@ pub enum Zone {
 impl<K: ValueKind + Copy> Band<K> {
     // A band in NO ZONE, or none where the lower bound is above the upper one.
     pub fn new(lower: K, upper: K) -> Option<Band<K>>
-        ensures { result ≡ band_made K.ValueKind lower upper }
+        ensures { result ≡ band_made K.ValueKind.at_most lower upper }
     {
         if !lower.at_most(&upper) {
             return None;
@@ -34,7 +34,7 @@ impl<K: ValueKind> Band<K> {
     // The zone that a value brings: ABOVE from another zone where it is at least the upper bound, else BELOW from another
     // zone where it is at most the lower one, else the zone as it was.
     fn zone_after(&self, value: &K) -> Zone
-        ensures { result ≡ zone_after K.ValueKind value.now self.now }
+        ensures { result ≡ zone_after K.ValueKind.at_most value.now self.now }
     {
         if self.zone != Zone::Above && self.upper.at_most(value) {
             Zone::Above
@@ -47,13 +47,13 @@ impl<K: ValueKind> Band<K> {
 
     // Takes a sample, and answers whether the zone moved.
     pub fn sample(&mut self, value: &K) -> bool
-        ensures moved { result ≡ band_moves K.ValueKind value.now self.old }
-        ensures after { self.new ≡ band_after K.ValueKind value.now self.old }
-        ensures rises { Rises K.ValueKind value.now self.old self.new }
-        ensures falls { Falls K.ValueKind value.now self.old self.new }
-        ensures rests { Rests K.ValueKind value.now self.old result self.new }
-        ensures settles { Settles K.ValueKind value.now self.new }
-        ensures alternates { Alternates K.ValueKind value.now self.old result }
+        ensures moved { result ≡ band_moves K.ValueKind.at_most value.now self.old }
+        ensures after { self.new ≡ band_after K.ValueKind.at_most value.now self.old }
+        ensures rises { Rises K.ValueKind.at_most value.now self.old self.new }
+        ensures falls { Falls K.ValueKind.at_most value.now self.old self.new }
+        ensures rests { Rests K.ValueKind.at_most value.now self.old result self.new }
+        ensures settles { Settles K.ValueKind.at_most value.now self.new }
+        ensures alternates { Alternates K.ValueKind.at_most value.now self.old result }
     {
         let next = self.zone_after(value);
         let moved = next != self.zone;
@@ -64,8 +64,8 @@ impl<K: ValueKind> Band<K> {
 
 // The same at a place of the bands, which may be free. A match: what a closure changes behind `as_mut` is not proved.
 fn sample_place<K: ValueKind>(place: &mut Option<Band<K>>, value: &K) -> bool
-    ensures moved { result ≡ place_moves K.ValueKind value.now place.old }
-    ensures after { place.new ≡ place_after K.ValueKind value.now place.old }
+    ensures moved { result ≡ place_moves K.ValueKind.at_most value.now place.old }
+    ensures after { place.new ≡ place_after K.ValueKind.at_most value.now place.old }
 {
     match place {
         Some(band) => band.sample(value),
@@ -75,8 +75,8 @@ fn sample_place<K: ValueKind>(place: &mut Option<Band<K>>, value: &K) -> bool
 
 // The same at every place of some bands.
 fn sample_places<K: ValueKind>(places: &mut [Option<Band<K>>], value: &K) -> bool
-    ensures moved { result ≡ any_moves K.ValueKind value.now places.old }
-    ensures after { places.new ≡ bands_after K.ValueKind value.now places.old }
+    ensures moved { result ≡ any_moves K.ValueKind.at_most value.now places.old }
+    ensures after { places.new ≡ bands_after K.ValueKind.at_most value.now places.old }
 {
     let mut moved = false;
     for place in places.iter_mut() {
@@ -87,9 +87,9 @@ fn sample_places<K: ValueKind>(places: &mut [Option<Band<K>>], value: &K) -> boo
 
 // Gives the bands at some places the same sample, and answers whether any moved.
 pub fn sample<K: ValueKind>(places: &mut [Option<Band<K>>], value: &K) -> bool
-    ensures moved { result ≡ any_moves K.ValueKind value.now places.old }
-    ensures after { places.new ≡ bands_after K.ValueKind value.now places.old }
-    ensures settles { AllSettle K.ValueKind value.now places.new }
+    ensures moved { result ≡ any_moves K.ValueKind.at_most value.now places.old }
+    ensures after { places.new ≡ bands_after K.ValueKind.at_most value.now places.old }
+    ensures settles { AllSettle K.ValueKind.at_most value.now places.new }
 {
     sample_places(places, value)
 }
@@ -97,9 +97,9 @@ pub fn sample<K: ValueKind>(places: &mut [Option<Band<K>>], value: &K) -> bool
 impl<K: ValueKind> Bands<K> {
     // Gives every band of a variable the same sample, and answers whether any moved.
     pub fn sample(&mut self, value: &K) -> bool
-        ensures moved { result ≡ any_moves K.ValueKind value.now self.old.places }
-        ensures after { self.new.places ≡ bands_after K.ValueKind value.now self.old.places }
-        ensures settles { AllSettle K.ValueKind value.now self.new.places }
+        ensures moved { result ≡ any_moves K.ValueKind.at_most value.now self.old.places }
+        ensures after { self.new.places ≡ bands_after K.ValueKind.at_most value.now self.old.places }
+        ensures settles { AllSettle K.ValueKind.at_most value.now self.new.places }
     {
         sample(&mut self.places, value)
     }

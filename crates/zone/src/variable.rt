@@ -1,6 +1,6 @@
 // A variable: its kind, and its bands, which samples move.
 ghost use Rattle.std.specs.Prelude.{◌≡◌};
-ghost use Rattle.zone.specs.Variables.{EveryOrdered, empty_of, kind_of, sample_fault_code, whole_band, real_band, whole_value, real_value, band_answer, with_band, sample_answer, sample_after, zone_of};
+ghost use Rattle.zone.specs.Variables.{AllOrdered, empty_of, kind_of, sample_fault_code, whole_band, real_band, whole_value, real_value, band_answer, with_band, sample_answer, sample_after, zone_of};
 
 use crate::band::{Band, Bands};
 use crate::places::BandRefusal;
@@ -115,7 +115,7 @@ impl Variable {
     // A variable without bands.
     pub fn new(kind: Kind) -> Variable
         ensures value { result ≡ empty_of kind }
-        ensures ordered { EveryOrdered }
+        ensures ordered { AllOrdered result }
     {
         match kind {
             Kind::Whole => Variable::Whole(Bands::new()),
@@ -146,6 +146,7 @@ impl Variable {
     pub fn add_band(&mut self, number: u32, bounds: Bounds) -> Result<(), BandRefusal>
         ensures answer { result ≡ band_answer self.old number bounds }
         ensures after { self.new ≡ with_band self.old number bounds }
+        ensures ordered { AllOrdered self.old → AllOrdered self.new }
     {
         match self {
             Variable::Whole(bands) => bands.add(number, Band::try_from(bounds)),
@@ -157,6 +158,7 @@ impl Variable {
     pub fn sample(&mut self, sample: Sample) -> Result<bool, SampleFault>
         ensures answer { result ≡ sample_answer self.old sample }
         ensures after { self.new ≡ sample_after self.old sample }
+        ensures ordered { AllOrdered self.old → AllOrdered self.new }
     {
         match self {
             Variable::Whole(bands) => Ok(bands.sample(&i32::try_from(sample)?)),

@@ -1,6 +1,9 @@
 // One band of a whole variable, and one of a real variable, sample by sample.
+use std::alloc::AllocError;
 use std::process::Abort;
+use zone::band::{Band, Bands};
 use zone::rule::Zone;
+use zone::run::sample_run;
 use zone::variable::{Bounds, Kind, Sample, SampleFault, Variable};
 
 // A whole variable with band 1. Two helpers: with one, each call would spell out the case of the bounds.
@@ -100,4 +103,64 @@ fn only_the_last_moves(rt: HostRuntime) {
     assert_eq!(rt; v.zone(1), Some(Zone::NoZone));
     assert_eq!(rt; v.zone(2), None);
     assert_eq!(rt; v.zone(7), Some(Zone::Above));
+}
+
+// Two bands 10 to 20, one ABOVE and one BELOW, at numbers 1 and 2.
+fn above_and_below() -> Bands<i32> {
+    let mut high = Band::new(10, 20);
+    if let Some(band) = &mut high {
+        sample_run(band, &[20]);
+    }
+    let mut low = Band::new(10, 20);
+    if let Some(band) = &mut low {
+        sample_run(band, &[20, 10]);
+    }
+    Bands::from([high, low, None, None, None, None, None])
+}
+
+// Bands of equal bounds keep zones of their own, and each moves from its own.
+#[test]
+fn bands_that_are_given(rt: HostRuntime) {
+    let mut v = Variable::Whole(above_and_below());
+    assert_eq!(rt; v.zone(1), Some(Zone::Above));
+    assert_eq!(rt; v.zone(2), Some(Zone::Below));
+    assert_eq!(rt; v.sample(Sample::Whole(15)), Ok(false));
+    assert_eq!(rt; v.zone(1), Some(Zone::Above));
+    assert_eq!(rt; v.zone(2), Some(Zone::Below));
+    assert_eq!(rt; v.sample(Sample::Whole(20)), Ok(true));
+    assert_eq!(rt; v.zone(1), Some(Zone::Above));
+    assert_eq!(rt; v.zone(2), Some(Zone::Above));
+    assert_eq!(rt; v.sample(Sample::Whole(20)), Ok(false));
+}
+
+// The bands of a variable can be counted, taken out, put in and sampled one by one.
+#[test]
+fn bands_that_are_changed(rt: HostRuntime) {
+    let mut v = Variable::Whole(above_and_below());
+    if let Variable::Whole(bands) = &mut v {
+        let free = bands.places.iter().filter(|place| place.is_none()).count();
+        assert_eq!(rt; free, 5);
+        bands.places[0] = None;
+        bands.places[6] = Band::new(5, 5);
+        if let Some(band) = &mut bands.places[1] {
+            assert_eq!(rt; band.sample(&20), true);
+        }
+    }
+    assert_eq!(rt; v.zone(1), None);
+    assert_eq!(rt; v.zone(2), Some(Zone::Above));
+    assert_eq!(rt; v.zone(7), Some(Zone::NoZone));
+    assert_eq!(rt; v.add_band(1, Bounds::Whole { lower: 1, upper: 2 }), Ok(()));
+}
+
+// A copy has the bounds and the zones of its band.
+#[test]
+fn bands_that_are_cloned(rt: HostRuntime) -> Result<(), AllocError> {
+    let bands = above_and_below().clone()?;
+    let mut v = Variable::Whole(bands);
+    assert_eq!(rt; v.zone(1), Some(Zone::Above));
+    assert_eq!(rt; v.zone(2), Some(Zone::Below));
+    assert_eq!(rt; v.sample(Sample::Whole(10)), Ok(true));
+    assert_eq!(rt; v.zone(1), Some(Zone::Below));
+    assert_eq!(rt; v.zone(2), Some(Zone::Below));
+    Ok(())
 }

@@ -1,11 +1,12 @@
 // What a refused band or sample answers and leaves.
+use setup::refusal::{Refusal, answer};
 use zone::places::BandRefusal;
 use zone::rule::Zone;
 use zone::variable::{Bounds, Kind, Sample, SampleFault, Variable};
 
-// The code of what the adding of a band answers.
-fn code(answer: Result<(), BandRefusal>) -> u8 {
-    answer.err().map_or(0, BandRefusal::code)
+// The code of what the adding of a band answers, as a setup gives it.
+fn code(added: Result<(), BandRefusal>) -> u8 {
+    answer(added.map_err(|fault| Refusal::Entry { number: 1, fault })).0
 }
 
 #[test]
