@@ -4,6 +4,7 @@ ghost use Rattle.frames.specs.Frames.{frame_end, frame_written};
 ghost use Rattle.bodies.specs.Bodies.{body_of};
 
 use crate::body::Body;
+use crate::write::{BODY_LIMIT, write_body};
 use frames::frame::write_frame;
 use frames::header::Header;
 
@@ -12,5 +13,7 @@ pub fn write_message(out: &mut [u8], at: usize, header: Header, body: Body) -> O
     ensures place { result ≡ frame_end out.old at (body_of body) }
     ensures after { out.new ≡ frame_written out.old at header (body_of body) }
 {
-    write_frame(out, at, header, &body.bytes())
+    let mut bytes = [0; BODY_LIMIT];
+    let length = write_body(body, &mut bytes)?;
+    write_frame(out, at, header, &bytes[..length])
 }

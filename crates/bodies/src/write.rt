@@ -10,7 +10,6 @@ use crate::body::Body;
 use arrayvec::ArrayVec;
 use frames::header::Header;
 use items::write::{write_item, write_list};
-use octets::copy_at;
 use secs::format::Format;
 use secs::scalar::{Binary, U4};
 use values::writers::{write_ascii, write_value};
@@ -87,33 +86,46 @@ fn write_items(body: Body, out: &mut [u8]) -> Option<usize>
 }
 
 impl Body {
+    // How many bytes the body has, which never exceeds the limit.
+    #[tactic(auto, using(crate::proofs::Limits::every_body_fits), unfolding(crate::specs::Bodies::body_of))]
+    pub fn length(self) -> usize
+        ensures value { result ≡ length (body_of self) }
+        ensures fits { EveryBodyFits }
+    {
+        match self {
+            Body::Empty => 0,
+            Body::Identity => 18,
+            Body::Accepted => 23,
+            Body::Alarm { .. } => 13,
+            Body::Event { .. } => 16,
+            Body::Header(_) => 12,
+            Body::Acknowledge(_) => 3,
+        }
+    }
+
     // The bytes of the body's items.
+    #[tactic(auto, using(crate::proofs::Limits::every_body_fits))]
     pub fn bytes(self) -> ArrayVec<u8, BODY_LIMIT>
         ensures items { result.items ≡ body_of self }
         ensures fits { EveryBodyFits }
     {
         let mut bytes = ArrayVec::from([0; BODY_LIMIT]);
-        let length = write_items(self, &mut bytes).unwrap();
+        let length = write_body(self, &mut bytes).unwrap();
         bytes.truncate(length);
         bytes
-    }
-
-    // How many bytes the body has, which never exceeds the limit.
-    pub fn length(self) -> usize
-        ensures value { result ≡ length (body_of self) }
-        ensures fits { EveryBodyFits }
-    {
-        self.bytes().len()
     }
 }
 
 // Writes a body at the front of `out` and answers its length. Where `out` is too short, nothing changes.
+#[tactic(auto, using(crate::proofs::Limits::every_body_fits))]
 pub fn write_body(body: Body, out: &mut [u8]) -> Option<usize>
     ensures place { result ≡ body_end out.old (body_of body) }
     ensures after { out.new ≡ body_written out.old (body_of body) }
     ensures front { IfSome result (λ n. take n out.new ≡ body_of body) }
     ensures surely { 480 ≤ length out.old → result ≡ Some (length (body_of body)) }
 {
-    let bytes = body.bytes();
-    copy_at(out, 0, &bytes).then_some(bytes.len())
+    if out.len() < body.length() {
+        return None;
+    }
+    write_items(body, out)
 }

@@ -1,5 +1,5 @@
 -- The item that stands at a place of a frame.
-use Rattle.std.specs.Prelude.{ℕ, ◌+◌, ◌-◌, ◌*◌, ◌/◌, ◌%◌, ◌≤◌, cond, List, [], length, Some, None, Ok, Err, Option, Result, ◌==◌, nat_le, nat_lt, slice_index}
+use Rattle.std.specs.Prelude.{◌≡◌, ℕ, ◌+◌, ◌-◌, ◌*◌, ◌/◌, ◌%◌, ◌≤◌, false, cond, List, [], length, Some, None, Ok, Err, Option, Result, ◌==◌, nat_le, nat_lt, slice_index}
 use Rattle.std.specs.List.{between}
 use Rattle.secs.specs.Formats.{format_of}
 use Rattle.secs.specs.Elements.{is_list, content_fault}
@@ -55,6 +55,7 @@ abbrev pub seen : Result Item Fault → Result Reading Fault
 seen (Ok i) = Ok (reading i.format i.begin i.length i.content.now i.next)
 seen (Err fault) = Err fault
 
--- an item's content lies in the frame
-abbrev pub Within : Item → List ℕ → Type 0
-Within i frame = i.begin + length i.content.now ≤ length frame
+-- an item's content lies in the frame, and is as long as the item says unless it is a list
+pub record Within (i : Item) (frame : List ℕ) : Type 0 where
+  pub inside : i.begin + length i.content.now ≤ length frame
+  pub long : is_list i.format ≡ false → length i.content.now ≡ i.length

@@ -1,6 +1,7 @@
 // Readers of one value from an item at a place. Each gives the value and the place after the item: a caller that reads on
 // keeps the two in a struct of its own.
-ghost use Rattle.std.specs.Prelude.{◌≡◌, IfOk};
+ghost use Rattle.std.specs.Prelude.{◌≡◌, false, length, IfOk};
+ghost use Rattle.secs.specs.Elements.{is_list};
 ghost use Rattle.readers.specs.Values.{format_at, list_at, value_at, text_at, seen_item, seen_text};
 
 use crate::mismatch::Mismatch;
@@ -13,6 +14,7 @@ use secs::scalar::{Element, Scalar};
 fn read_format<'a>(frame: &'a [u8], at: usize, format: Format) -> Result<Item<'a>, Mismatch>
     ensures item { seen_item result ≡ format_at frame.now at format }
     ensures same { IfOk result (λ i. i.format ≡ format) }
+    ensures long { IfOk result (λ i. is_list format ≡ false → length i.content.now ≡ i.length) }
 {
     let item = read_item(frame, at)?;
     if item.format == format {

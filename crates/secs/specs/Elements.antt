@@ -1,5 +1,5 @@
 -- What a content has to be: whole elements, and numbers where they are F4.
-use Rattle.std.specs.Prelude.{◌≡◌, ℕ, ◌+◌, ◌*◌, ◌%◌, Bool, true, false, cond, not, ◌&&◌, List, [], ◌∷◌, length, Some, None, Ok, Err, Option, Result, ◌==◌, nat_lt}
+use Rattle.std.specs.Prelude.{ℕ, ◌+◌, ◌*◌, ◌%◌, Bool, true, false, cond, not, ◌&&◌, List, [], ◌∷◌, length, Some, None, Ok, Err, Option, Result, ◌==◌, nat_lt}
 use Rattle.std.specs.List.{list_all}
 use Rattle.secs.specs.Formats.{width_of}
 use Rattle.secs.specs.declared.format.Format.{Format}
@@ -42,10 +42,6 @@ is_list format.U1 = false
 is_list format.I4 = false
 is_list format.F4 = false
 is_list format.U4 = false
-
--- a content is as long as its item says, unless that is a list
-abbrev pub IsLong : Format → ℕ → List ℕ → Type 0
-IsLong f n content = is_list f ≡ false → length content ≡ n
 
 -- the fault of a content of a format, if it has one
 abbrev pub content_fault : Format → List ℕ → Option Fault

@@ -52,10 +52,8 @@ impl Format {
     fn from_code(code: u8) -> Option<Format>
         ensures { result ≡ format_of code }
     {
-        Format::ALL
-            .iter()
-            .copied()
-            .find(|format| format.code() == code)
+        let place = FORMATS.iter().position(|(own, _)| *own == code)?;
+        Format::ALL.get(place).copied()
     }
 
     // How many bytes an element takes.

@@ -1,6 +1,4 @@
 // An item as the reader gives it, and what can be wrong with one.
-ghost use Rattle.secs.specs.Elements.{IsLong};
-
 use crate::format::Format;
 
 // `begin` is the place of the content, `next` the place after the item. A list has no content of its own: its
@@ -12,7 +10,6 @@ pub struct Item<'a> {
     pub length: usize,
     pub content: &'a [u8],
     pub next: usize,
-    pub ghost long: { IsLong format length content.now },
 }
 
 #[derive(Clone, Copy, PartialEq, Eq, Debug)]
