@@ -1,4 +1,3 @@
-pub mod Bands
 pub mod Laws
 pub mod Orders
 pub mod Pairs

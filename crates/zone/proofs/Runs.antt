@@ -1,6 +1,5 @@
 -- Runs of samples to one band.
-use Rattle.std.proofs.Common.{◌≡◌, ℕ, ◌+◌, ◌<◌, ◌≤◌, Bool, true, false, List, [], ◌∷◌, ◌++◌, length, get_or, drop, sym, refl, ap, ◌∙◌}
-use Rattle.std.proofs.lemmas.List.{at_drop_more, at_drop_all}
+use Rattle.std.proofs.Common.{◌≡◌, Bool, true, false, List, [], ◌∷◌, ◌++◌, refl, ap, ◌∙◌}
 use Rattle.std.proofs.lemmas.List.Sums.{fold-append}
 use Rattle.zone.specs.declared.band.Band.{Band}
 use Rattle.zone.specs.declared.rule.Zone.{Zone}
@@ -50,14 +49,3 @@ module _ {K : Type 0} (at_most : K → K → Bool) (transitive : Transitive at_m
             let h : at_most band.upper value ≡ false = not_so _ (λ h. not_both at_most transitive band value wide h l) in
             decides band before value after Below (λ z. (λ i. next_zone z (h i) (l i)) ∙ fall z) between;
       }
-
-  -- what is left of a run gives the same once a value more is taken
-  pub along_more : (values : List K) (i : ℕ) (value : K) (band next end : Band K) → i < length values → value ≡ get_or values i value → next ≡ band_after at_most value band → band_along at_most (drop i values) band ≡ end → band_along at_most (drop (i + 1) values) next ≡ end
-  along_more values i value band next end lt is step inv =
-      let more : band_along at_most (drop i values) band ≡ band_along at_most (drop (i + 1) values) (band_after at_most (get_or values i value) band) =
-      at_drop_more (λ vs. band_along at_most vs band) values i value lt in
-      ap (band_along at_most (drop (i + 1) values)) (step ∙ ap (λ v. band_after at_most v band) is) ∙ (sym more ∙ inv)
-
-  -- a run of which nothing is left
-  pub along_all : (values : List K) (i : ℕ) (band end : Band K) → length values ≤ i → band_along at_most (drop i values) band ≡ end → band ≡ end
-  along_all values i band end le inv = sym (at_drop_all (λ vs. band_along at_most vs band) values i le) ∙ inv
