@@ -116,7 +116,8 @@ impl Body {
     }
 }
 
-// Writes a body at the front of `out` and answers its length. Where `out` is too short, nothing changes.
+// Writes a body at the front of `out` and answers its length. Where `out` is too short, nothing changes. Who sends or keeps the
+// bytes at once has a buffer of the limit beside the call: one that came back from a function would be moved once more.
 #[tactic(auto, using(crate::proofs::Limits::every_body_fits))]
 pub fn write_body(body: Body, out: &mut [u8]) -> Option<usize>
     ensures place { result ≡ body_end out.old (body_of body) }

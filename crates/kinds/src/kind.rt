@@ -29,6 +29,7 @@ pub trait ValueKind: Sized {
 
     ghost of_bits: { ℕ → Option Self };
 
+    // Each kind answers these two by itself: said once here, they would ask every kind for a proof of what its constants are.
     fn format_code() -> u8
         ensures { result ≡ code_of format };
 

@@ -4,7 +4,8 @@ use crate::line::Line;
 
 pub mod calls;
 
-// The lines of one call, before they go to the ledger that the call was lent. A call never allocates.
+// The lines of one call, before they go to the ledger that the call was lent. A call never allocates. An array with a count:
+// an ArrayVec could not be copied.
 #[derive(Clone, Copy)]
 pub struct Journal {
     lines: [Line; 32],

@@ -5,7 +5,8 @@ use frames::header::Header;
 
 pub mod calls;
 
-// A message that waits for its frame: the first `length` bytes of `body` are its body. A call never allocates.
+// A message that waits for its frame: the first `length` bytes of `body` are its body. A call never allocates. An array with a
+// length: an ArrayVec could not be copied.
 #[derive(Clone, Copy)]
 pub struct Message {
     header: Header,

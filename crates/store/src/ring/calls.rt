@@ -60,7 +60,8 @@ impl Store for Ring {
 
     ghost limit = { λ s. vec_len s.slots };
 
-    // Each make finds its newest report and its room in its own way, so that the three refusals stand in each.
+    // Each make finds its newest report and its room in its own way, so that the three refusals stand in each. The body's length
+    // is judged here too, so that a put that is refused makes no record.
     fn put(&mut self, report: Report<'_>) -> Result<(), PutRefusal> {
         if report.number == 0 || report.body.len() > BODY_LIMIT {
             return Err(PutRefusal::Unfit);
